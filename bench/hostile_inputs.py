@@ -188,6 +188,15 @@ def half_removed(key, times=1):
     return Text(characters, marks, range(1, characters, 2))
 
 
+# Removals that are taken back.
+
+
+def removed_and_back(text, count):
+    """The changes that remove so many of a text's characters from the first one on, and take that back: one line each."""
+    counter = text.newest() + 1
+    return f"change3 1 1\nd {counter}@1 1@1 {count}\n", f"change3 1 1\nv {counter + count}@1 {counter}@1 {count}\n"
+
+
 # What sessions send.
 
 

@@ -25,6 +25,8 @@ SPANS = 8000
 PULLS = 5
 # About what 20 million instructions take on the machine of docs/BENCHMARKS.md.
 REVIEWED = 3
+# Removed characters that come back in one change, and the most milliseconds for that.
+UNDONE, MOST_UNDONE = 20000, 20
 # Of the client beside a writer that never pauses: this number of requests of each kind, or as many as there are in this number of seconds.
 REQUESTS, SECONDS = 200, 40
 # First come, first served: the change that has the lock, the one whose turn was before, and one that was answered but not yet read. A pull takes
@@ -221,6 +223,25 @@ def measure_writer(hub):
     yield Note("", f"  {len(waits)} waits: median {statistics.median(waits):.1f} ms, longest {max(waits):.1f} ms")
 
 
+# Row 18: undo.
+
+
+def measure_undo(hub):
+    """Of a client's key for undo: the hub's work on one change that shows so many characters again."""
+    text = inputs.Text(20480, [])
+    removed, back = inputs.removed_and_back(text, UNDONE)
+    taken = []
+    for _ in range(CHANGES):
+        session = Replay(hub)
+        for change in (*text.changes(), removed):
+            session.ask(change)
+        before = processor_time(session.child.pid)
+        session.ask(back)
+        taken.append((processor_time(session.child.pid) - before) * 1000)
+        session.end()
+    yield alone("18", f"undo of {UNDONE:,} removed characters, one line: a change", statistics.median(taken), "ms", MOST_UNDONE)
+
+
 # Row 7: commands.
 
 
@@ -270,6 +291,7 @@ ROWS = {
     "greatest": greatest_counter,
     "shares": shares,
     "large": large_texts,
+    "undo": measure_undo,
 }
 
 

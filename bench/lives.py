@@ -33,6 +33,13 @@ class Replica:
         element[2] = False
         return f"d {self.counter}@{node} {name_of(element[0])}", 1
 
+    def revived(self, node, removal, element):
+        """The line that takes the removal back, an element's only one that stands."""
+        self.counter += 1
+        self.visible += 1
+        element[2] = True
+        return f"v {self.counter}@{node} {name_of(removal)}"
+
     def text(self):
         return "".join(character for _, character, visible in self.order if visible)
 
@@ -42,14 +49,17 @@ def name_of(own):
 
 
 class Life:
-    """A text that grows to `kept` bytes, and stays so long while it is written on."""
+    """A text that grows to `kept` bytes, and stays so long while it is written on. So large a part of the changes undo the one before."""
 
-    def __init__(self, rng, kept):
-        self.rng, self.kept = rng, kept
+    def __init__(self, rng, kept, undone=0):
+        self.rng, self.kept, self.undone = rng, kept, undone
+        self.added, self.gone, self.undos = [], [], 0
         self.replica, self.at, self.changes, self.marks = Replica(), 0, 0, 0
 
     def change(self, node):
         """The lines of the next change, by this peer."""
+        if self.undone and self.added and self.rng.random() < self.undone:
+            return self.undo(node)
         if self.rng.random() < 0.02:
             self.at = self.rng.randrange(len(self.replica.order) + 1)
         lines = self.typed(node)
@@ -59,9 +69,19 @@ class Life:
             lines.append(self.marked(node))
         return [f"change2 {node} {len(lines)}", *lines]
 
+    def undo(self, node):
+        """What the last change typed is removed, and what it removed is taken back."""
+        lines = [self.replica.removed(node, element)[0] for element in self.added]
+        lines += [self.replica.revived(node, removal, element) for removal, element in self.gone]
+        self.added, self.gone = [], []
+        self.changes += 1
+        self.undos += 1
+        return [f"change3 {node} {len(lines)}", *lines]
+
     def typed(self, node):
         """Four characters at the place, where there are many in place of those behind it, or of the last before it: these are removed first."""
         replica, behind, before, lines = self.replica, self.at, self.at - 1, []
+        self.gone = []
         while replica.visible + WIDTH > self.kept:
             if behind < len(replica.order):
                 element, behind = replica.order[behind], behind + 1
@@ -69,7 +89,9 @@ class Life:
                 element, before = replica.order[before], before - 1
             if element[2]:
                 lines.append(replica.removed(node, element))
+                self.gone.append(((replica.counter, node), element))
         lines += replica.typed(node, self.at, "".join(self.rng.choice("etaoin shrdlu") for _ in range(WIDTH)))
+        self.added = replica.order[self.at:self.at + WIDTH]
         return [line for line, _ in lines]
 
     def marked(self, node):

@@ -36,6 +36,10 @@ class Wide(NamedTuple):
         """One mark over all of the text."""
         return f"change 1 1\nm {self.counter}@1 {key} - ^ $\n"
 
+    def colored(self, count):
+        """One color over the first characters."""
+        return f"change 1 1\nm {self.counter}@1 color 00ff00 <1@1 >{count}@1\n"
+
     def removal_of_ends(self, times=1):
         """The first and the last character are removed; the second time, and each later one, shows nothing."""
         changes = []
@@ -179,18 +183,21 @@ def kept_by_wide_changes(hub):
     yield beside("15", "two cursors in one change keep, beside two changes", kept(hub, text, one) / KIB, kept(hub, text, two) / KIB, "KiB", 1.5)
 
 
+def of_keys(hub, marks, follows):
+    """The instructions of a key in a text of so many marks: of keys that follow one another, or with another character between each two."""
+    wide = Wide.of(scattered(inputs.strong, marks))
+    middle = wide.text.characters // 2
+    places = [middle, *range(wide.counter, wide.counter + 8)] if follows else range(middle, middle + 9)
+    typed = wide.typed_apart(places)
+    return counted_after(hub, "large", wide.text, typed[:1], typed[1:]) * MILLION / 8
+
+
 def keys(hub):
-    """Keys that follow one another, and keys with another character between each two."""
     for kind, follows in (("a key", True), ("a key apart from the last one", False)):
         counts = []
         for marks in (500, 4096, 16376):
-            text = scattered(inputs.strong, marks)
-            wide = Wide.of(text)
-            middle = text.characters // 2
-            places = [middle, *range(wide.counter, wide.counter + 8)] if follows else range(middle, middle + 9)
-            typed = wide.typed_apart(places)
-            counts.append(counted_after(hub, "large", text, typed[:1], typed[1:]) * MILLION / 8)
-            what = f"{kind} at {text.characters:,} characters under {marks:,} marks"
+            counts.append(of_keys(hub, marks, follows))
+            what = f"{kind} at 131,000 characters under {marks:,} marks"
             figure = beside("16", what, counts[-1], counts[0], "", KEY_TIMES)
             yield figure._replace(limit=min(figure.limit, A_KEY), aim=f"{figure.aim} those of 500, and {A_KEY:,}")
 

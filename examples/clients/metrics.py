@@ -12,7 +12,7 @@ METRICS = [
     ("versions", "hub_versions_total", "counter", "Number of the latest version, one for each accepted change."),
     ("characters", "hub_characters", "gauge", "Visible characters of the text."),
     ("bytes", "hub_text_bytes", "gauge", "Bytes of the visible text."),
-    ("removed", "hub_removed_characters_total", "counter", "Characters that were inserted and removed."),
+    ("removed", "hub_removed_characters", "gauge", "Characters that were inserted and aren't visible."),
     ("marks", "hub_mark_operations_total", "counter", "Accepted operations that add or remove a mark."),
     ("subscribers", "hub_subscribers", "gauge", "Subscribers that are open."),
     ("subscribed", "hub_subscribed_total", "counter", "Subscribers that were ever added, closed ones too."),

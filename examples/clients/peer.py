@@ -14,6 +14,7 @@ of a node are used up. Commands are lines:
     spans                           prints the spans, as `hub spans` does
     insert PLACE TEXT               inserts a text at a place: 0 is before the first character
     remove FIRST END                removes the characters from place FIRST up to place END
+    restore                         takes back the last `remove` that isn't, and what others removed of the same
     mark FIRST END KEY [VALUE]      makes them strong, em, code, comment:N, link (VALUE: its target) or color (VALUE: rrggbb)
     unmark FIRST END KEY            takes such a key from them
     wait VERSION                    waits until the hub has that version
@@ -32,6 +33,7 @@ import time
 from typing import NamedTuple
 
 OPERATIONS, NODES, TRIES = 256, 65535, 50
+LONGEST_RUN, MEANT = 65535, 262144
 CONNECTS, WAITS, PAUSE = 120, 20, 0.5
 GREATEST = (1 << 48) - 1
 AT_ONCE = 64
@@ -52,7 +54,7 @@ class NoHub(Exception):
 
 
 # How a line of any reply to a peer begins.
-KNOWN = re.compile(r"(ok|no|span|change2?|[idmur]) ")
+KNOWN = re.compile(r"(ok|no|span|change[23]?|[idmurv]) ")
 
 
 def meaning(why):
@@ -136,6 +138,35 @@ def above(newest, ids, count=1):
     return counter
 
 
+def id_runs(ids):
+    """Ids in runs of consecutive counters of a node: the first id of each, and how many it has."""
+    runs = []
+    for counter, node in sorted(ids, key=lambda own: own[::-1]):
+        first, count = runs[-1] if runs else ((0, 0), 0)
+        if (counter, node) == (first[0] + count, first[1]) and count < LONGEST_RUN:
+            runs[-1] = first, count + 1
+        else:
+            runs.append(((counter, node), 1))
+    return runs
+
+
+def some_runs(runs):
+    """As many of these runs as a change has lines for, and may mean operations by."""
+    sums = itertools.accumulate(count for _, count in runs)
+    return [run for run, meant in zip(runs[:OPERATIONS], sums) if meant <= MEANT]
+
+
+def run_lines(kind, newest, node, runs):
+    """The lines of removals (d) or revivals (v) of what runs name, with ids in a row."""
+    count = sum(count for _, count in runs)
+    counter = above(newest, [(first[0] + count - 1, first[1]) for first, count in runs], count)
+    lines = []
+    for first, count in runs:
+        lines.append(f"{kind} {counter}@{node} {word_of(first)}" + (f" {count}" if count > 1 else ""))
+        counter += count
+    return lines
+
+
 def position(place, anchor):
     """Where an anchor stands among all of them: before and after the character at place P, 2 P and 2 P + 1."""
     if anchor in ("^", "$"):
@@ -186,6 +217,23 @@ class Mark(NamedTuple):
     end: str
 
 
+class Removals:
+    """Removals with consecutive counters, of characters with consecutive counters, and which of them are taken back."""
+
+    def __init__(self, own, first, count):
+        self.own, self.first, self.back = own, first, bytearray(count)
+
+    def __len__(self):
+        return len(self.back)
+
+    def character(self, at):
+        return self.first[0] + at, self.first[1]
+
+    def goes_on(self, own, first):
+        """Whether a removal is the next one behind these."""
+        return (self.own[0] + len(self), self.own[1]) == own and self.character(len(self)) == first
+
+
 class Layout(NamedTuple):
     """A version of the text: all characters in their order, the place of each, and the visible ones with their formats."""
     order: list
@@ -203,7 +251,8 @@ class Replica:
         self.characters = {}
         self.parents = {}
         self.children = {None: []}
-        self.removed = set()
+        self.removals = {}
+        self.removed = {}
         self.marks = []
         self.changes = {}
         self.kept_layout = None
@@ -218,8 +267,9 @@ class Replica:
                 own = self.take_run(own, id_in(words[0]), words[1:])
             elif kind == "r":
                 own = self.take_run(own, id_in(words[0]), words[2:])
-            elif kind == "d":
-                self.removed.add(id_in(words[0]))
+            elif kind in "dv":
+                take = self.take_removals if kind == "d" else self.take_revivals
+                own = take(own, id_in(words[0]), int(words[1]) if words[1:] else 1)
             elif kind == "m":
                 self.marks.append(Mark(own, *words))
             else:
@@ -239,6 +289,37 @@ class Replica:
             bisect.insort(self.children[parent], own)
             parent = own
         return parent
+
+    def take_removals(self, own, first, count):
+        """Takes removals, by runs: of each character how many of its removals aren't taken back. Returns the last one's id."""
+        kept = self.removals.setdefault(own[1], [])
+        if kept and kept[-1].goes_on(own, first):
+            kept[-1].back += bytes(count)
+        else:
+            kept.append(Removals(own, first, count))
+        for character in ((first[0] + at, first[1]) for at in range(count)):
+            self.removed[character] = self.removed.get(character, 0) + 1
+        return own[0] + count - 1, own[1]
+
+    def take_revivals(self, own, removal, count):
+        """Takes revivals. One of a removal that is taken back already does nothing. Returns the last one's id."""
+        kept = self.removals[removal[1]]
+        for counter in range(removal[0], removal[0] + count):
+            removals = kept[bisect.bisect_right(kept, counter, key=lambda some: some.own[0]) - 1]
+            at = counter - removals.own[0]
+            if not removals.back[at]:
+                removals.back[at] = 1
+                character = removals.character(at)
+                self.removed[character] -= 1
+                if not self.removed[character]:
+                    del self.removed[character]
+        return own[0] + count - 1, own[1]
+
+    def standing(self, ids):
+        """The ids of those removals of some characters that aren't taken back."""
+        ids = self.removed.keys() & set(ids)
+        return [(removals.own[0] + at, removals.own[1]) for kept in self.removals.values() for removals in kept if ids
+                for at, back in enumerate(removals.back) if not back and removals.character(at) in ids]
 
     def layout(self):
         """The version's layout, which is kept until the next change."""
@@ -368,6 +449,7 @@ class Peer:
         self.place, self.session = place, Session(place)
         self.replica = Replica()
         self.own, self.is_behind = [], False
+        self.removed = []
         if node is not None:
             self.session.ask(f"newest {node}")
         self.node = self.unused_node() if node is None else node
@@ -503,7 +585,16 @@ class Peer:
         return visible[first:end]
 
     def remove(self, first, end):
-        self.remove_all(self.range(first, end))
+        ids = self.range(first, end)
+        self.remove_all(ids)
+        self.removed.append(ids)
+
+    def restore(self):
+        """Takes back the last `remove` of this peer that isn't taken back."""
+        if not self.removed:
+            raise ValueError("nothing was removed, or all is restored")
+        self.restore_all(self.removed[-1])
+        self.removed.pop()
 
     def mark(self, first, end, key, value="-"):
         """Adds a key to a range: strong, em, code, link, color or comment:N."""
@@ -555,9 +646,21 @@ class Peer:
         """Removes those of these characters that are visible, and at last says which can't be removed."""
         ids = sorted(ids)
         while ids := [own for own in ids if own not in self.replica.removed]:
-            self.submit(lambda node, newest: self.removals(node, newest, ids[:OPERATIONS]))
+            self.submit(lambda node, newest: self.removals(node, newest, ids))
 
     def removals(self, node, newest, ids):
+        """The change that removes as many of these characters as it can. Where some have consecutive ids they are on one line; else, or
+        where there aren't as many counters, each has its own."""
+        runs = some_runs(id_runs(ids))
+        try:
+            if len(runs) < sum(count for _, count in runs):
+                lines = run_lines("d", newest, node, runs)
+                return [f"change3 {node} {len(lines)}", *lines]
+        except NoCounter:
+            pass
+        return self.single_removals(node, newest, ids[:OPERATIONS])
+
+    def single_removals(self, node, newest, ids):
         """The change that removes as many of these characters as have a counter above them."""
         lines = []
         for own in ids:
@@ -569,6 +672,11 @@ class Peer:
                 break
             lines.append(f"d {newest}@{node} {word_of(own)}")
         return [f"change {node} {len(lines)}", *lines]
+
+    def restore_all(self, ids):
+        """Takes back all removals of these characters that the replica has."""
+        while runs := some_runs(id_runs(self.replica.standing(ids))):
+            self.submit(lambda node, newest: [f"change3 {node} {len(runs)}", *run_lines("v", newest, node, runs)])
 
     def mark_between(self, first, last, key, value):
         """Adds a key from one character to another, both included; or takes it away where the value is None. It says at last where it
@@ -641,6 +749,8 @@ def perform(peer, line):
         peer.insert(number_in(words[0]), unescaped(rest.partition(" ")[2]))
     elif command == "remove" and len(words) == 2:
         peer.remove(number_in(words[0]), number_in(words[1]))
+    elif command == "restore" and not words:
+        peer.restore()
     elif command == "mark" and len(words) in (3, 4):
         peer.mark(number_in(words[0]), number_in(words[1]), *words[2:])
     elif command == "unmark" and len(words) == 3:

@@ -61,7 +61,9 @@ def spans_of(changes):
 def edit(peer, rng):
     """One edit at random."""
     length = len(peer.replica.layout().visible)
-    what = rng.choice(["insert", "insert", "mark", "mark", "unmark", "remove"]) if length else "insert"
+    what = rng.choice(["insert", "insert", "mark", "mark", "unmark", "remove", "restore"]) if length else "insert"
+    if what == "restore":
+        return peer.restore() if peer.removed else None
     first = rng.randrange(length + (what == "insert"))
     if what == "insert":
         return peer.insert(first, rng.choice(PIECES))
@@ -173,16 +175,42 @@ def try_words(peer):
     assert peer.replica.span_lines() == want, peer.replica.span_lines()
     peer.remove(2, 3)
     peer.insert(2, "z")
+    try_restoring(peer)
     want = ["0 strong,em,code,link=https://a.b,color=0000ff ax", "1 strong zy", "2 plain c\\\\"]
     assert peer.replica.span_lines() == want, peer.replica.span_lines()
     peer.close()
 
 
+def try_restoring(peer):
+    """What is removed and restored, twice, is one line each, also where another one has removed some of it meanwhile; a character that is
+    removed again stays so."""
+    before = peer.replica.span_lines()
+    for _ in range(2):
+        peer.insert(1, "abcdefgh")
+        whole, (first, node) = peer.replica.span_lines(), peer.replica.layout().visible[1]
+        peer.remove(1, 9)
+        assert peer.replica.span_lines() == before
+        own = peer.replica.newest[node] - 7
+        newest = peer.session.ask("newest 3")[1]
+        counter = max(newest, first + 8) + 1
+        peer.session.ask("change3 3 1", f"d {counter}@3 {first + 2}@{node} 4")
+        peer.follow()
+        peer.restore()
+        change = list(peer.replica.changes.values())[-1]
+        assert change[0] == f"change3 {node} 2" and peer.replica.span_lines() == whole, change
+        assert {" ".join(line.split(" ")[2:]) for line in change[1:]} == {f"{own}@{node} 8", f"{counter}@3 4"}, change
+        peer.remove(1, 9)
+        peer.session.ask("change3 3 1", f"v {counter + 4}@3 {own}@{node} 8")
+        peer.follow()
+        assert peer.replica.span_lines() == before and peer.replica.standing(peer.removed[-1])
+
+
 def try_command():
     """The command peer.py."""
-    said = "insert 0 Hm\\n\\\\\nmark 0 2 em\ntext\nspans\nremove 0 1\nspans\nremove 9 10\nwait 2\nbold\ninsert 0 \0\n"
+    said = "insert 0 Hm\\n\\\\\nmark 0 2 em\ntext\nspans\nremove 0 1\nspans\nremove 9 10\nwait 2\nbold\ninsert 0 \0\nrestore\ntext\nrestore\n"
     want = ("version 1\nversion 2\nHm\\n\\\\\n0 em Hm\n1 plain \\n\\\\\nversion 3\n0 em m\n1 plain \\n\\\\\ncannot: no range of a text of "
-            "3 characters\nversion 3\ncannot: no such command; peer.py --help tells them\ncannot: U+0000 can't be inserted\n")
+            "3 characters\nversion 3\ncannot: no such command; peer.py --help tells them\ncannot: U+0000 can't be inserted\n"
+            "version 4\nHm\\n\\\\\ncannot: nothing was removed, or all is restored\n")
     with Hub(2, "--read") as hub:
         command = [sys.executable, pathlib.Path(__file__).with_name("peer.py"), str(hub.port)]
         done = subprocess.run(command, input=said.encode(), stdout=subprocess.PIPE, check=True)

@@ -91,7 +91,7 @@ class Hub:
         lines = (await self.ask_for(b"changes %d %d\n" % (version, count), b"changes"))[:-1]
         texts, at = [], 0
         while at < len(lines):
-            end = at + 1 + int(re.fullmatch(rb"change2? [0-9]+ ([0-9]+)\n", lines[at])[1])
+            end = at + 1 + int(re.fullmatch(rb"change[23]? [0-9]+ ([0-9]+)\n", lines[at])[1])
             texts.append(b"".join(lines[at:end]))
             at = end
         return texts

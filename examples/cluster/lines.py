@@ -8,7 +8,7 @@ from typing import NamedTuple
 LINE_LIMIT = 70_000
 # No line of a change that can be accepted is longer (a run of 256 characters is the longest).
 LONGEST_RIGHT_LINE = 2048
-HEADER = re.compile(rb"change2? ([1-9][0-9]{0,4}) ([1-9][0-9]{0,2})\n")
+HEADER = re.compile(rb"change[23]? ([1-9][0-9]{0,4}) ([1-9][0-9]{0,2})\n")
 SUBSCRIBES = re.compile(rb"sub[23]? ")
 # What begins a message of HTTP, as a browser sends it for any page, or of TLS. No session has such a line.
 HTTP, TLS = re.compile(rb" HTTP/1\.[01]\r?\n$"), b"\x16\x03"

@@ -158,15 +158,15 @@ function tell(words) {
 function showState() {
   const words = { connecting: hub.why || "connecting", connected: hub.waiting ? "sending" : "connected" };
   const troubles = { offline: `${hub.why} Type on: your changes are sent once it can be.`, stopped: hub.why };
-  const { room } = hub, characters = Math.min(room.characters, room.bytes);
-  const changes = Math.max(room.changes - hub.changesFor(0), 0);
+  const { room: { characters, bytes, changes: all } } = hub, changes = Math.max(all - hub.changesFor(0), 0);
   document.body.dataset.state = hub.state;
   the("state").textContent = words[hub.state] ?? hub.state;
   the("node").textContent = hub.node === null ? "" : `node ${hub.node}, version ${hub.replica.version}`;
   the("node").style.color = hub.node === null ? "" : colorOf(hub.node);
   the("trouble").textContent = troubles[hub.state] ?? "";
-  const isLittle = hub.isEditable && (characters < FEW_CHARACTERS || changes < FEW_CHANGES);
-  the("room").textContent = isLittle ? `Room for ${many(characters)} characters and ${many(changes)} changes.` : "";
+  const isLittle = hub.isEditable && (Math.min(characters, bytes) < FEW_CHARACTERS || changes < FEW_CHANGES);
+  const room = `${many(characters)} characters, ${many(bytes)} bytes of visible text and ${many(changes)} changes`;
+  the("room").textContent = isLittle ? `Room for ${room}.` : "";
   showSelection();
 }
 

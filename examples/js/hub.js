@@ -1,7 +1,8 @@
 // A client of a hub that runs with --read: a session over a WebSocket (docs/SESSIONS.md has its lines), and a replica
 // of the text. Edits are seen at once, also without a connection, and are sent when the hub can be reached.
 
-import { Cannot, Change, Edit, NONE, OPERATIONS, Replica, countOf, sizeOf } from "./replica.js";
+import { MEANT, NONE, OPERATIONS, removalsIn } from "./removals.js";
+import { Cannot, Change, Edit, Replica, countOf, meantBy, sizeOf } from "./replica.js";
 
 export { Cannot, Replica, bytesOf, checkMark, escaped, formatOf, textOf } from "./replica.js";
 
@@ -149,16 +150,10 @@ class Filter {
 const EDIT = { act: "Remove", back: "Undo" }, UNDO = { act: "Undo, and remove", back: "Redo" };
 const REDO = { act: "Redo, and remove", back: "Undo" };
 
-/** How many characters, in how many changes, are put back where a list of edits is taken back; from the last edit of it
- * on that can't be, none. */
+/** In how many changes all is put back where a list of edits is taken back: one for each that removed something, but none
+ * from the last one on that can't be. */
 function owed(edits) {
-  const sum = { characters: 0, changes: 0 };
-  for (const { removed, isGivenUp } of edits.toReversed()) {
-    if (isGivenUp) break;
-    sum.characters += removed.length;
-    sum.changes += Math.ceil(removed.length / OPERATIONS);
-  }
-  return sum;
+  return edits.slice(edits.findLastIndex(edit => edit.isGivenUp) + 1).filter(edit => edit.removed.length).length;
 }
 
 // The hub.
@@ -202,18 +197,19 @@ export class Hub extends EventTarget {
     return [...this.accepted, this.flight].flatMap(change => change?.operations ?? NONE).concat(this.groups.flat());
   }
 
-  /** What was typed here and isn't known to be accepted: its pieces, as they stand in the text, each of runs of
-   * characters whose ids follow one another. */
+  /** What was typed or put back here and isn't known to be accepted: its pieces, as they stand in the text, each of runs
+   * of characters whose ids follow one another. */
   get unsent() {
     const { replica } = this, pieces = [];
-    const typed = this.pending.flatMap(({ characters = NONE }) => characters).filter(one => one.isVisible);
-    const places = new Map(typed.map(one => [one, replica.indexOf(one)]));
+    const added = this.pending.flatMap(({ characters = NONE, parts = NONE }) =>
+      [...characters, ...Array.from(removalsIn(parts), ([removals, at]) => removals.characters[at])]);
+    const places = new Map(added.filter(one => one.isVisible && !one.isAccepted).map(one => [one, replica.indexOf(one)]));
     let end = -1;
     for (const [one, place] of [...places].sort(([, first], [, second]) => first - second)) {
       if (end < 0 || replica.order.slice(end, place).some(between => between.isVisible)) pieces.push([]);
-      const runs = pieces.at(-1), last = runs.at(-1), { node, counter, text } = one;
-      if (last?.node === node && last.end === counter) last.text += text;
-      else runs.push({ node, counter, text });
+      const runs = pieces.at(-1), last = runs.at(-1), { node, counter, text, isPending } = one;
+      if (last?.node === node && last.end === counter && last.isBack !== isPending) last.text += text;
+      else runs.push({ node, counter, text, isBack: !isPending });
       runs.at(-1).end = counter + 1;
       end = place + 1;
     }
@@ -259,20 +255,17 @@ export class Hub extends EventTarget {
   /** How many changes this page has to send with so many operations more. */
   changesFor(operations) { return Math.ceil((this.waiting + operations) / OPERATIONS); }
 
-  /** What to ask the person before so many characters are removed, where they couldn't be put back with all that `list`
-   * would put back; null where they could, or where the person doesn't want to be asked. */
-  stake({ characters = 0, removed, operations }, { act, back } = EDIT, list = this.done) {
+  /** What to ask the person before so many characters are removed, where no changes would be left to put them back with
+   * all that `list` would put back; null where they would, or where the person doesn't want to be asked. */
+  stake({ removed, operations }, { act, back } = EDIT, list = this.done) {
     if (removed <= this.waived) return null;
-    const { room } = this, before = owed(list), all = before.characters + removed, left = room.characters - characters;
-    const changes = before.changes + Math.ceil(removed / OPERATIONS), rest = room.changes - this.changesFor(operations);
-    if (all <= left && changes <= rest) return null;
-    const them = before.characters ? "all that you removed" : removed === 1 ? "it" : "them";
-    const why = all > left ?
-      `room for ${noun(all, "character")}, and there is room for ${many(Math.max(left, 0))}: removed ones count too` :
-      `${noun(changes, "change")}, and the document takes ${many(Math.max(rest, 0))} more`;
+    const before = owed(list), rest = this.room.changes - this.changesFor(operations);
+    if (before + 1 <= rest) return null;
+    const them = before ? "all that you removed" : removed === 1 ? "it" : "them";
+    const takes = `${noun(before + 1, "change")}, and the document takes ${many(Math.max(rest, 0))} more`;
     return {
       removed, title: `${act} ${noun(removed, "character")}?`,
-      why: `${back} couldn't put ${them} back: that takes ${why}.`,
+      why: `${back} couldn't put ${them} back: that takes ${takes}.`,
     };
   }
 
@@ -284,12 +277,10 @@ export class Hub extends EventTarget {
 
   /** Notes which edits of a list can't be taken back any more, since the room is less than they need. */
   giveUp(list) {
-    const { room } = this;
-    room.changes -= this.changesFor(0);
+    let rest = this.room.changes - this.changesFor(0);
     for (const edit of list.toReversed()) {
-      room.characters -= edit.removed.length;
-      room.changes -= Math.ceil(edit.removed.length / OPERATIONS);
-      if (room.characters < 0 || room.changes < 0) edit.isGivenUp = true;
+      if (edit.removed.length) rest -= 1;
+      if (rest < 0) edit.isGivenUp = true;
       if (edit.isGivenUp) return;
     }
   }
@@ -302,7 +293,7 @@ export class Hub extends EventTarget {
     const before = this.done.at(-1);
     if (!edit.goesOn(before)) { this.done.push(edit); return; }
     // A call takes fewer arguments than a text has characters: so no `push`.
-    before.inserted = before.inserted.concat(edit.inserted);
+    before.shown = before.shown.concat(edit.shown);
     before.removed = before.removed.concat(edit.removed);
     before.time = edit.time;
   }
@@ -329,17 +320,19 @@ export class Hub extends EventTarget {
    * aren't removed without a question where they couldn't be put back. */
   step(from, to, words, most = 0) {
     while (from.length) {
-      const edit = from.at(-1), needs = edit.needs(), { characters } = needs;
+      const edit = from.at(-1), needs = edit.needs();
       const lacks = this.lacks(needs), question = this.stake(needs, words, to);
-      if (lacks) throw new Cannot(characters ? `${noun(characters, "character")} can't be put back. ${lacks}` : lacks);
+      if (lacks) throw new Cannot(needs.back ? `${noun(needs.back, "character")} can't be put back. ${lacks}` : lacks);
       if (question && question.removed > most) {
         this.ask({ ...question, accept: () => this.acceptStep(from, to, words, question.removed) });
         return true;
       }
-      from.pop();
       const back = this.make(made => made.takeBack(edit));
-      back.time = -Infinity;
+      from.pop();
       if (back.isEmpty) continue;
+      const step = { edit, back, from, to, at: from.length };
+      for (const operation of back.operations) operation.step = step;
+      back.time = -Infinity;
       to.push(back);
       this.tell("text", { isOwn: true });
       return true;
@@ -538,11 +531,15 @@ export class Hub extends EventTarget {
   /** The operations of the next change: those of whole edits, or a part of one that is too long. */
   nextOperations() {
     const { groups } = this, operations = [];
-    let room = OPERATIONS;
-    while (groups.length && (room === OPERATIONS || sizeOf(groups[0]) <= room)) {
+    let room = OPERATIONS, meant = MEANT;
+    const fits = group => sizeOf(group) <= room && group.reduce((sum, one) => sum + meantBy(one), 0) <= meant;
+    while (groups.length && (room === OPERATIONS || fits(groups[0]))) {
       const [group] = groups;
       let count = 0;
-      for (; count < group.length && countOf(group[count]) <= room; count += 1) room -= countOf(group[count]);
+      for (; count < group.length && fits([group[count]]); count += 1) {
+        room -= countOf(group[count]);
+        meant -= meantBy(group[count]);
+      }
       operations.push(...group.splice(0, count));
       if (group.length) break;
       groups.shift();
@@ -561,15 +558,32 @@ export class Hub extends EventTarget {
     // It may have been accepted, if an earlier session still sent it.
     if (why.number === 46 || why.number === 47) await this.follow();
     if (!this.flight) return;
+    const step = this.flight.operations.findLast(({ parts, step }) => parts && step)?.step;
     this.land();
     if (why.number === 46 || why.number === 47) {
       this.again(() => {});
+    } else if (why.number === 48 && step) {
+      this.keep(step);
+      this.again(() => this.leaveOut(one => one.step === step));
     } else if (why.number === 49) {
-      this.again(() => { this.groups = this.groups.map(group => group.filter(({ mark }) => !mark)); });
+      this.again(() => this.leaveOut(({ mark }) => mark));
       this.tell("notice", WORDS[49]);
     } else {
       throw new Stopped(`${await this.reason(why)} What you did last isn't in the hub's text.`);
     }
+  }
+
+  /** Leaves operations out that aren't accepted. */
+  leaveOut(isLeft) { this.groups = this.groups.map(group => group.filter(operation => !isLeft(operation))); }
+
+  /** The text has no room for what an undo or redo puts back: it isn't done, and can be done again. */
+  keep({ edit, back, from, to, at }) {
+    if (to.includes(back)) {
+      to.splice(to.indexOf(back), 1);
+      from.splice(at, 0, edit);
+    }
+    const them = noun(back.shown.length, "character");
+    this.tell("notice", `${them} can't be put back: the text is full. Try again once something is removed.`);
   }
 
   /** Puts the operations of the change that was sent back among those that aren't. */

@@ -7,6 +7,7 @@ import { Plugin, PluginKey, TextSelection } from "prosemirror-state";
 import { AddMarkStep, RemoveMarkStep, ReplaceStep } from "prosemirror-transform";
 import { Decoration, DecorationSet } from "prosemirror-view";
 import { Cannot, bytesOf, formatOf } from "./hub.js";
+import { inGroups } from "./removals.js";
 
 const LINK = /^[!-~]{1,1024}$/, COLOR = /^[0-9a-f]{6}$/, COMMENT = /^[1-9][0-9]{0,9}$/;
 const COMPOSED = 60, QUIET = 5000, HERE = 60000;
@@ -204,6 +205,12 @@ class Binding {
     tr.replace(from, Math.max(from, to), slice).setMeta("uiEvent", by).setMeta(key, { accepted: removed });
     this.view.dispatch(tr.scrollIntoView());
     this.hub.giveUp(this.hub.done);
+  }
+
+  /** By how many lines what stands between two positions is removed, where it is `count` characters. */
+  linesOf(from, to, count) {
+    const { index: first } = this.seek(from), { index: end } = this.seek(to);
+    return Math.min(inGroups(this.shown.slice(first, end).filter(one => one.isVisible)).length + 1, count);
   }
 
   /** Notes what the document has now. Before `start`, a position, there are `index` characters. */
@@ -533,22 +540,24 @@ function countAlike(some, others) {
   return head + tail;
 }
 
-/** What a transaction removes and adds, in characters, bytes and marks, and how many operations that takes. */
-function changesOf({ steps, docs, doc }) {
-  const sum = { characters: 0, removed: 0, bytes: 0, marks: 0, operations: 1 };
+/** What a transaction removes and adds, in characters, bytes and marks, and about how many operations that takes: in a first
+ * step what is removed is known by its ids. */
+function changesOf({ steps, docs, doc }, binding) {
+  const sum = { characters: 0, removed: 0, lines: 0, bytes: 0, marks: 0 };
   const bytes = items => items.reduce((sum, { text }) => sum + bytesOf(text), 0);
   steps.forEach((step, at) => {
     const before = docs[at], after = docs[at + 1] ?? doc;
     if (step instanceof AddMarkStep || step instanceof RemoveMarkStep) sum.marks = 1;
     step.getMap().forEach((start, end, from, to) => {
       const removed = itemsAround(before, start, end), added = itemsAround(after, from, to);
-      const alike = countAlike(removed, added);
-      sum.removed += removed.length - alike;
+      const alike = countAlike(removed, added), count = removed.length - alike;
+      sum.removed += count;
+      sum.lines += at === 0 ? binding.linesOf(start, end, count) : count;
       sum.characters += added.length - alike;
       sum.bytes += bytes(added) - bytes(removed);
     });
   });
-  return { ...sum, operations: Math.max(sum.removed + sum.characters + sum.marks, 1) };
+  return { ...sum, operations: Math.max(sum.lines + sum.characters + sum.marks, 1) };
 }
 
 /** Whether a transaction, on a state, says itself which marks its text has: by those chosen at the caret, or as a text
@@ -603,7 +612,7 @@ export function hubPlugin(hub) {
     filterTransaction(transaction) {
       const said = transaction.getMeta(key);
       if (!transaction.docChanged || said?.isHub) return true;
-      const changes = changesOf(transaction), lacks = hub.lacks(changes), question = hub.stake(changes);
+      const changes = changesOf(transaction, binding), lacks = hub.lacks(changes), question = hub.stake(changes);
       if (lacks) hub.tell("notice", lacks);
       else if (!question || question.removed <= (said?.accepted ?? 0)) return true;
       else queueMicrotask(() => binding.ask(transaction, question));

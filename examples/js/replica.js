@@ -1,7 +1,10 @@
 // A replica of a hub's text: its characters and marks as docs/PERITEXT.md has them, and what makes operations of a
 // person's edits. docs/CHANGE_FORMAT.md has how a change is written.
 
-export const OPERATIONS = 256, NONE = Object.freeze([]);
+import {
+  ACCEPTED, HERE, LONGEST_RUN, NONE, OPERATIONS, Part, Removals, inBatches, inGroups, isNext, removalsIn, runsOf,
+} from "./removals.js";
+
 const GREATEST = 2 ** 48 - 1, JOINED = 500;
 const KEYS = ["strong", "em", "code", "link", "color"];
 
@@ -23,19 +26,20 @@ export class Character {
     this.ends = NONE;
     this.isIn = false;            // it stands in the text, maybe removed
     this.isPending = false;       // its change isn't known to be accepted
-    this.isRemoved = false;       // by an accepted change; by one that isn't known to be accepted
-    this.isRemovedHere = false;
-    this.isRemovedByOther = false;
+    this.removals = 0;            // how many removals of it aren't taken back; and by accepted changes alone
+    this.acceptedRemovals = 0;
     this.near = 0;                // about where it stands
     this.seat = this.start = 0;   // where a view noted it: among its characters, and in its document
     this.size = text === "\n" ? 2 : text.length;   // how many positions of a ProseMirror document it takes
     this.bytes = bytesOf(text);
-    this.again = null;            // by which it was brought back
   }
 
   get word() { return `${this.counter}@${this.node}`; }
 
-  get isVisible() { return this.isIn && !this.isRemoved && !this.isRemovedHere; }
+  get isVisible() { return this.isIn && this.removals === 0; }
+
+  /** Whether it is visible by the accepted changes alone. */
+  get isAccepted() { return !this.isPending && this.acceptedRemovals === 0; }
 
   /** The format that it has, or would have if it weren't removed. */
   get format() { return this.cover.format; }
@@ -123,18 +127,20 @@ function withItem(list, item) { return list === NONE ? [item] : (list.push(item)
 // The replica.
 
 /** The text that follows from the changes taken, and from this page's operations that aren't accepted yet. An operation
- * is `{characters, left}`, characters in a row that are inserted behind one; `{removed}`, with its id; or `{mark}`. */
+ * is `{characters, left}`, characters in a row that are inserted behind one; `{removals}`, with ids in a row; `{parts}` of
+ * removals, which are taken back by ids in a row; or `{mark}`. */
 export class Replica {
   constructor() {
     this.root = new Character("");
-    this.root.isIn = this.root.isRemoved = true;
-    this.root.cover = new Cover([]);
+    Object.assign(this.root, { isIn: true, removals: 1, acceptedRemovals: 1, cover: new Cover([]) });
     this.order = [this.root];     // all characters, each behind its parent, of several children the greatest id first
     this.characters = new Map();
+    this.removals = new Map();    // of each node, by rising counters; without those that were all taken back
     this.marks = [];
     this.newest = new Map();
     this.places = new Map();      // of each node, behind which character it changed something last, in which version
     this.version = 0;
+    this.drift = 0;
     this.forget();
   }
 
@@ -149,11 +155,16 @@ export class Replica {
 
   get text() { return this.visible.map(character => character.text).join(""); }
 
+  /** A character stands near where it stood, or as far from there as the one that was looked for last. */
   indexOf(character) {
-    const { order } = this, { near } = character;
-    for (let far = 0; far <= order.length; far += 1) {
-      if (order[near - far] === character) return character.near = near - far;
-      if (order[near + far] === character) return character.near = near + far;
+    const { order, drift } = this, { near } = character;
+    if (order[near] === character) return near;
+    if (order[near + drift] === character) return character.near = near + drift;
+    for (let far = 1; far <= order.length; far += 1) {
+      const at = near >= far && order[near - far] === character ? near - far : near + far;
+      if (order[at] !== character) continue;
+      this.drift = at - near;
+      return character.near = at;
     }
     throw new Error(`no character ${character.word}`);
   }
@@ -172,7 +183,8 @@ export class Replica {
     for (const line of change.slice(1)) {
       const [kind, own, ...words] = line.split(" "), [counter, node] = own.split("@").map(Number);
       if (kind === "i" || kind === "r") this.takeRun(counter, node, words[0], words.slice(kind === "i" ? 1 : 2));
-      else if (kind === "d") this.takeRemoval(node, this.characters.get(words[0]), counter);
+      else if (kind === "d") this.takeRemovals(counter, node, words[0], Number(words[1] ?? 1));
+      else if (kind === "v") this.takeRevivals(counter, node, words[0], Number(words[1] ?? 1));
       else this.takeMark(counter, node, words[0], kind === "m" ? words[1] : null, words.slice(-2));
     }
     this.version += 1;
@@ -187,10 +199,78 @@ export class Replica {
     this.note(node, before, counter + codes.length - 1);
   }
 
-  takeRemoval(node, character, counter) {
-    character.isRemovedByOther = true;
-    character.isRemoved = true;
-    this.note(node, character, counter);
+  takeRemovals(counter, node, word, count) {
+    const [first, of] = word.split("@").map(Number), before = this.removals.get(node)?.at(-1);
+    const characters = Array.from({ length: count }, (_, at) => this.characters.get(`${first + at}@${of}`));
+    for (const one of characters) {
+      one.removals += 1;
+      one.acceptedRemovals += 1;
+    }
+    if (before?.end === counter && before.back === null && !before.isPending) {
+      for (const one of characters) before.characters.push(one);
+      before.left += count;
+    } else {
+      this.keepRemovals(new Removals(characters, counter, node));
+    }
+    this.note(node, characters.at(-1), counter + count - 1);
+  }
+
+  /** Takes revivals. Of removals that aren't kept each was taken back before. */
+  takeRevivals(counter, node, word, count) {
+    const [first, of] = word.split("@").map(Number);
+    let removals = null;
+    for (let at = first; at < first + count; at += 1) {
+      if (!removals || at >= removals.end) removals = this.removalsAt(at, of);
+      if (removals) this.takeBack(removals, at - removals.counter);
+    }
+    if (removals) this.note(node, removals.characters[first + count - 1 - removals.counter], counter + count - 1);
+    else this.newest.set(node, counter + count - 1);
+  }
+
+  keepRemovals(removals) {
+    if (!this.removals.has(removals.node)) this.removals.set(removals.node, []);
+    this.removals.get(removals.node).push(removals);
+  }
+
+  dropRemovals(removals) {
+    const kept = this.removals.get(removals.node);
+    kept.splice(kept.lastIndexOf(removals), 1);
+  }
+
+  /** The removals among which one is, by its id; null where it isn't kept. */
+  removalsAt(counter, node) {
+    const kept = this.removals.get(node) ?? NONE;
+    let first = 0, end = kept.length;
+    while (first < end) {
+      const middle = (first + end) >> 1;
+      if (kept[middle].end <= counter) first = middle + 1; else end = middle;
+    }
+    return kept[first]?.counter <= counter ? kept[first] : null;
+  }
+
+  /** A removal is taken back by an accepted change. */
+  takeBack(removals, at) {
+    const character = removals.characters[at];
+    if (!removals.isIn(at) || removals.isTakenBack(at, ACCEPTED)) return;
+    if (!removals.isTakenBack(at)) character.removals -= 1;
+    character.acceptedRemovals -= 1;
+    removals.note(at, ACCEPTED, true);
+    removals.left -= 1;
+    if (removals.left === 0) this.dropRemovals(removals);
+  }
+
+  /** The removals of some characters that aren't taken back, in parts of those with ids in a row. */
+  standing(characters) {
+    const wanted = new Set(characters), parts = [];
+    for (const removals of wanted.size ? [...this.removals.values()].flat() : NONE) {
+      removals.characters.forEach((one, at) => {
+        if (!wanted.has(one) || !removals.isIn(at) || removals.isTakenBack(at)) return;
+        const last = parts.at(-1);
+        if (last?.removals === removals && last.end === at && last.count < LONGEST_RUN) last.count += 1;
+        else parts.push(new Part(removals, at));
+      });
+    }
+    return parts;
   }
 
   takeMark(counter, node, key, value, anchors) {
@@ -271,7 +351,7 @@ export class Replica {
       return formats.get(cover);
     };
     for (const one of this.order) {
-      if (isAccepted ? one.isPending || one.isRemoved : !one.isVisible) continue;
+      if (isAccepted ? !one.isAccepted : !one.isVisible) continue;
       const format = isAccepted ? acceptedFormat(one.cover) : one.format;
       if (spans.at(-1)?.format !== format) spans.push({ format, characters: [] });
       spans.at(-1).characters.push(one);
@@ -333,7 +413,8 @@ export class Replica {
   /** Does an operation of this page, with a fresh id. Returns whether it still does something. */
   attach(node, operation) {
     if (operation.characters) this.attachRun(node, operation);
-    else if (operation.removed) return this.attachRemoval(node, operation);
+    else if (operation.removals) return this.attachRemovals(node, operation);
+    else if (operation.parts) return this.attachRevivals(node, operation);
     else this.attachMark(node, operation.mark);
     return true;
   }
@@ -349,16 +430,42 @@ export class Replica {
     this.newest.set(node, characters.at(-1).counter);
   }
 
-  attachRemoval(node, operation) {
-    const { removed } = operation;
-    if (!removed.isVisible) return false;
-    operation.counter = this.above(node, [removed]);
-    if (operation.counter === null) throw new Cannot("A character can't be removed: no counter is left.");
-    operation.node = node;
-    removed.isRemovedHere = true;
-    this.newest.set(node, operation.counter);
+  attachRemovals(node, operation) {
+    const { removals } = operation, { characters } = removals, there = characters.filter(one => one.isIn);
+    if (there.length === 0) return false;
+    const counter = this.above(node, there, characters.length);
+    if (counter === null) throw new Cannot("A character can't be removed: no counter is left.");
+    Object.assign(removals, { counter, node, isPending: true, left: there.length });
+    for (const one of there) one.removals += 1;
+    operation.runs = runsOf("d", counter, characters.map((one, at) => removals.isIn(at) ? one : null));
+    this.keepRemovals(removals);
+    this.newest.set(node, removals.end - 1);
     this.forget();
     return true;
+  }
+
+  attachRevivals(node, operation) {
+    const named = [...removalsIn(operation.parts)].map(([removals, at]) =>
+      removals.isIn(at) ? { counter: removals.counter + at, node: removals.node } : null);
+    const there = named.filter(one => one !== null);
+    if (there.length === 0) return false;
+    const counter = this.above(node, there, named.length);
+    if (counter === null) throw new Cannot("A character can't be put back: no counter is left.");
+    this.setRevived(operation.parts, true);
+    operation.runs = runsOf("v", counter, named);
+    this.newest.set(node, counter + named.length - 1);
+    this.forget();
+    return true;
+  }
+
+  /** Notes whether an operation of this page, which isn't accepted, takes removals back. */
+  setRevived(parts, isRevived) {
+    for (const [removals, at] of removalsIn(parts)) {
+      if (!removals.isIn(at)) continue;
+      if (isRevived && !removals.isTakenBack(at)) removals.characters[at].removals -= 1;
+      removals.note(at, HERE, isRevived);
+      if (!isRevived && !removals.isTakenBack(at)) removals.characters[at].removals += 1;
+    }
   }
 
   attachMark(node, mark) {
@@ -374,12 +481,19 @@ export class Replica {
   }
 
   /** Takes back an operation of this page that wasn't accepted, those behind it first. */
-  detach(node, { characters, removed, counter, mark }) {
+  detach(node, { characters, removals, parts, runs, mark }) {
     if (characters) this.detachRun(characters);
-    else if (removed) removed.isRemovedHere = false;
+    else if (removals) this.detachRemovals(removals);
+    else if (parts) this.setRevived(parts, false);
     else this.dropMark(mark);
-    this.newest.set(node, (characters?.[0] ?? mark ?? { counter }).counter - 1);
+    this.newest.set(node, (characters?.[0] ?? runs?.[0] ?? mark).counter - 1);
     this.forget();
+  }
+
+  detachRemovals(removals) {
+    for (const one of removals.characters) if (one.isIn) one.removals -= 1;
+    this.dropRemovals(removals);
+    removals.counter = 0;
   }
 
   detachRun(characters) {
@@ -394,12 +508,21 @@ export class Replica {
 
   /** Notes that operations of this page were accepted, as the next change. */
   accept(operations) {
-    for (const { characters = NONE, removed, mark } of operations) {
+    for (const { characters = NONE, removals, parts = NONE, mark } of operations) {
       for (const character of characters) character.isPending = false;
-      if (removed) Object.assign(removed, { isRemoved: true, isRemovedHere: false });
+      if (removals) this.acceptRemovals(removals);
+      for (const [of, at] of removalsIn(parts)) {
+        this.takeBack(of, at);
+        if (of.isIn(at)) of.note(at, HERE, false);
+      }
       if (mark) mark.isPending = false;
     }
     this.version += 1;
+  }
+
+  acceptRemovals(removals) {
+    removals.isPending = false;
+    for (const one of removals.characters) if (one.isIn) one.acceptedRemovals += 1;
   }
 
   /** The anchors of a mark from one character to another. One that grows ends before the next character, and what is
@@ -455,7 +578,7 @@ export function checkMark(key, value) {
 /** An edit in the making: the operations that go to the hub together, and what takes them back. */
 export class Edit {
   constructor(replica, node) {
-    Object.assign(this, { replica, node, operations: [], inserted: [], removed: [], marks: [], isGivenUp: false });
+    Object.assign(this, { replica, node, operations: [], shown: [], removed: [], marks: [], isGivenUp: false });
     this.time = performance.now();
   }
 
@@ -469,42 +592,48 @@ export class Edit {
    * characters. */
   insert(behind, text, wanted = null) {
     const clean = text.toWellFormed().replaceAll("\0", "\ufffd");
-    const gaps = this.replica.gaps(behind, wanted), count = Array.from(clean).length;
-    const left = gaps.find(gap => this.replica.way(this.node, gap, count)) ?? gaps[0];
-    return this.insertAt(left, clean);
-  }
-
-  /** Inserts a text directly behind a character, a removed one too. */
-  insertAt(left, text, format = null) {
-    const characters = Array.from(text, character => new Character(character));
+    const characters = Array.from(clean, character => new Character(character));
+    const gaps = this.replica.gaps(behind, wanted);
+    let left = gaps.find(gap => this.replica.way(this.node, gap, characters.length)) ?? gaps[0];
     for (let at = 0; at < characters.length; at += OPERATIONS) {
       const part = characters.slice(at, at + OPERATIONS);
       this.do({ characters: part, left });
       left = part.at(-1);
     }
-    this.inserted = this.inserted.concat(characters);
-    if (format && characters.length) this.give(characters, format);
+    this.shown = this.shown.concat(characters);
     return characters;
   }
 
-  /** Gives characters of one format, in a row, another one. */
-  give(characters, format) {
-    const [first] = characters, now = first.format;
-    for (const key of new Set([...now.keys, ...format.keys]))
-      if (now.get(key) !== format.get(key)) this.mark(first, characters.at(-1), key, format.get(key));
+  /** Removes what is visible of some characters, and at last says which can't be removed. Where some have ids in a row,
+   * all removals have: those of the greatest ids come first. */
+  remove(characters) {
+    const visible = characters.filter(one => one.isVisible), groups = inGroups(visible);
+    const isEach = groups.length === visible.length || this.replica.above(this.node, visible, visible.length) === null;
+    if (isEach) return this.removeEach(visible);
+    for (const batch of inBatches(groups, group => group[0].isPending ? group.length : 1, group => group.length))
+      this.do({ removals: new Removals(batch.flat()) });
+    this.removed = this.removed.concat(visible);
   }
 
-  /** Removes what is visible of some characters, and at last says which can't be removed. */
-  remove(characters) {
+  removeEach(characters) {
     let wrong = null;
-    for (const removed of characters) {
+    for (const one of characters) {
       try {
-        if (this.do({ removed })) this.removed.push(removed);
+        if (this.do({ removals: new Removals([one]) })) this.removed.push(one);
       } catch (why) {
         wrong = why;
       }
     }
     if (wrong) throw wrong;
+  }
+
+  /** Takes removals back. */
+  putBack(parts) {
+    for (const batch of inBatches(parts, part => part.most, part => part.count)) {
+      this.do({ parts: batch });
+      const characters = Array.from(removalsIn(batch), ([removals, at]) => removals.characters[at]);
+      this.shown = this.shown.concat(characters.filter(one => one.isVisible));
+    }
   }
 
   /** Adds a key from one visible character to another, or takes it away where the value is null. Returns the mark. */
@@ -516,39 +645,32 @@ export class Edit {
     return mark;
   }
 
-  /** What it removed and nobody else did, where that isn't put back. */
-  get gone() { return this.removed.map(latest).filter(one => one.isIn && !one.isVisible && !one.isRemovedByOther); }
+  /** What it removed, where that isn't there again. */
+  get gone() {
+    const shown = new Set(this.shown);
+    return this.removed.filter(one => one.isIn && !one.isVisible && !shown.has(one));
+  }
 
   /** What it takes to take it back. */
   needs() {
-    const { gone, marks } = this, removed = this.inserted.map(latest).filter(one => one.isVisible);
+    const { gone, marks } = this, removed = this.shown.filter(one => one.isVisible);
     const sum = characters => characters.reduce((bytes, one) => bytes + one.bytes, 0);
+    const lines = inGroups(removed).length + this.replica.standing(gone).length;
     return {
-      characters: gone.length, removed: removed.length, bytes: sum(gone) - sum(removed), marks: marks.length,
-      operations: Math.max(gone.length + removed.length + marks.length, 1),
+      back: gone.length, removed: removed.length, bytes: sum(gone) - sum(removed), marks: marks.length,
+      operations: Math.max(lines + marks.length, 1),
     };
   }
 
-  /** Takes back what another edit did, as far as nobody else did so or did something newer. */
+  /** Takes back what another edit did: it removes what that one showed, and takes back all removals of what that one
+   * removed that are known here. Marks are as they were where nobody did something newer. */
   takeBack(edit) {
-    this.remove(edit.inserted.map(latest));
+    const parts = this.replica.standing(edit.gone), count = parts.reduce((sum, part) => sum + part.count, 0);
+    if (this.replica.above(this.node, [...parts, ...edit.shown], count + edit.shown.length) === null && parts.length)
+      throw new Cannot("It can't be put back: no counter is left.");
+    this.remove(edit.shown);
+    this.putBack(parts);
     for (const mark of edit.marks.toReversed()) this.takeBackMark(mark);
-    for (const group of this.groups(edit.gone))
-      this.insertAt(group[0], textOf(group), group[0].format).forEach((copy, at) => { group[at].again = copy; });
-  }
-
-  /** Characters in groups of those that stand in a row with one format, nothing visible between them. */
-  groups(characters) {
-    const { replica } = this, groups = [];
-    const sorted = characters.map(one => [replica.indexOf(one), one]).sort(([one], [other]) => one - other);
-    let end = -1;
-    for (const [place, one] of sorted) {
-      const isNext = groups.length > 0 && groups.at(-1)[0].format === one.format &&
-        replica.order.slice(end, place).every(between => !between.isVisible);
-      if (isNext) groups.at(-1).push(one); else groups.push([one]);
-      end = place + 1;
-    }
-    return groups;
   }
 
   /** Where this mark decides, or one that gave it back, gives back what it covers. */
@@ -579,53 +701,70 @@ export class Edit {
   goesOn(before) {
     if (!before || before.isGivenUp || this.time - before.time > JOINED) return false;
     if (this.marks.length || before.marks.length) return false;
-    const isTyped = one => one.inserted.length > 0 && one.removed.length === 0;
-    if (isTyped(this)) return isTyped(before) && this.operations[0].left === before.inserted.at(-1);
-    return this.inserted.length === 0 && before.inserted.length === 0;
+    const isTyped = one => one.shown.length > 0 && one.removed.length === 0;
+    if (isTyped(this)) return isTyped(before) && this.operations[0].left === before.shown.at(-1);
+    return this.shown.length === 0 && before.shown.length === 0;
   }
-}
-
-/** The character by which one was brought back last. */
-function latest(character) {
-  while (character.again) character = character.again;
-  return character;
 }
 
 // Changes.
 
-export function countOf({ characters }) { return characters ? characters.length : 1; }
+export function countOf({ characters, runs }) { return (characters ?? runs)?.length ?? 1; }
 
 export function sizeOf(operations) { return operations.reduce((sum, operation) => sum + countOf(operation), 0); }
 
-/** The line of an operation. */
-function lineOf({ characters, removed, mark, counter, node }) {
-  if (removed) return `d ${counter}@${node} ${removed.word}`;
+/** How many operations are meant: a line of removals is one, and means many. */
+export function meantBy({ characters, runs }) {
+  return runs ? runs.reduce((sum, { count }) => sum + count, 0) : characters?.length ?? 1;
+}
+
+/** The line of characters, of a run of removals or revivals of a node, or of a mark. */
+function lineOf(node, { characters, letter, counter, first, count, mark }) {
+  if (letter) return `${letter} ${counter}@${node} ${first.counter}@${first.node}${count > 1 ? ` ${count}` : ""}`;
   if (mark) {
     const words = mark.value === null ? ["u", mark.key] : ["m", mark.key, mark.value];
     words.splice(1, 0, `${mark.counter}@${mark.node}`);
     return [...words, wordOfAnchor(mark.start), wordOfAnchor(mark.end)].join(" ");
   }
-  const [first] = characters, codes = characters.map(one => one.text.codePointAt(0).toString(16));
-  const parent = first.parent.counter === 0 ? "-" : first.parent.word;
-  if (codes.length === 1) return `i ${first.word} ${parent} ${codes[0]}`;
-  return `r ${first.word} ${parent} ${codes.length} ${codes.join(" ")}`;
+  const [begin] = characters, codes = characters.map(one => one.text.codePointAt(0).toString(16));
+  const parent = begin.parent.counter === 0 ? "-" : begin.parent.word;
+  if (codes.length === 1) return `i ${begin.word} ${parent} ${codes[0]}`;
+  return `r ${begin.word} ${parent} ${codes.length} ${codes.join(" ")}`;
+}
+
+/** Two lines as one, where the one goes on in the other; null where it doesn't. Removals by single keys stay single. */
+function joined(before, line) {
+  if (before?.characters && line.characters) {
+    const last = before.characters.at(-1), [first] = line.characters;
+    const isOne = first.parent === last && first.counter === last.counter + 1;
+    return isOne ? { characters: [...before.characters, ...line.characters] } : null;
+  }
+  const isSingle = before?.letter === "d" && before.count + line.count === 2;
+  return before?.letter && line.letter && !isSingle && isNext(before, line) ?
+    { ...before, count: before.count + line.count } : null;
+}
+
+/** The form of a change with such a line. */
+function formOf({ characters, letter, count, mark }) {
+  if (letter === "v" || count > 1) return "change3";
+  return characters?.length > 1 || mark?.key === "code" ? "change2" : "change";
 }
 
 /** A change: its operations, where runs that go on in the next one are one. */
 export class Change {
   constructor(node, operations) {
     this.operations = operations;
-    const joined = [];
-    for (const operation of operations) {
-      const before = joined.at(-1)?.characters, [first] = operation.characters ?? NONE;
-      const isNext = before && first && first.parent === before.at(-1) && first.counter === before.at(-1).counter + 1;
-      if (isNext) joined.push({ characters: [...joined.pop().characters, ...operation.characters] });
-      else joined.push(operation);
+    const lines = [];
+    for (const line of operations.flatMap(operation => operation.runs ?? operation)) {
+      const one = joined(lines.at(-1), line);
+      if (one) lines[lines.length - 1] = one; else lines.push(line);
     }
-    const isSecond = joined.some(({ characters, mark }) => characters?.length > 1 || mark?.key === "code");
-    this.lines = [`${isSecond ? "change2" : "change"} ${node} ${joined.length}`, ...joined.map(lineOf)];
+    const form = lines.map(formOf).reduce((most, one) => one > most ? one : most);
+    this.lines = [`${form} ${node} ${lines.length}`, ...lines.map(line => lineOf(node, line))];
     this.text = this.lines.join("\n");
     const last = operations.at(-1);
-    this.last = (last.characters?.at(-1) ?? last.mark ?? last).counter;
+    this.last = last.characters?.at(-1).counter ?? last.mark?.counter ?? endOf(last.runs.at(-1));
   }
 }
+
+function endOf({ counter, count }) { return counter + count - 1; }

@@ -1,5 +1,5 @@
-// Keeps what is typed in a page until the hub has it: also over a reload, a closed tab and an end of the browser. What
-// a page left behind is shown to the writer, until that is copied or thrown away.
+// Keeps what is typed in a page, or put back by an undo, until the hub has it: also over a reload, a closed tab and an end
+// of the browser. What a page left behind is shown to the writer, until that is copied or thrown away.
 //
 // The browser keeps it (IndexedDB, under the page's address): a record for each page, of the characters that the hub
 // hasn't acknowledged, with their ids and the time. A record goes when the hub has its characters, also under their ids
@@ -123,10 +123,13 @@ export class Unsent extends EventTarget {
     else await this.forget(record);
   }
 
-  /** What of a run the hub's text doesn't have. */
-  missing({ node, counter, text }) {
+  /** What of a run the hub's text doesn't have: of what was put back, what isn't visible. */
+  missing({ node, counter, text, isBack }) {
     const { characters } = this.hub.replica;
-    const isIn = (one, at) => characters.get(`${counter + at}@${node}`)?.text === one;
+    const isIn = (one, at) => {
+      const found = characters.get(`${counter + at}@${node}`);
+      return found?.text === one && (found.isVisible || !isBack);
+    };
     return { text: Array.from(text).filter((one, at) => !isIn(one, at)).join("") };
   }
 

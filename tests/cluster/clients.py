@@ -72,10 +72,10 @@ class Client:
 
 
 class Known:
-    """The characters of acknowledged changes, and the greatest counter: what writers build on."""
+    """The characters and removals of acknowledged changes, and the greatest counter: what writers build on."""
 
     def __init__(self):
-        self.characters, self.counter, self.sent, self.is_over = [], 0, set(), False
+        self.characters, self.removals, self.counter, self.sent, self.is_over = [], [], 0, set(), False
 
 
 class Writer(Client):
@@ -92,8 +92,12 @@ class Writer(Client):
         place = rng.choice(known.characters[-200:] if rng.random() < 0.7 else known.characters) if known.characters else None
         named = f"{place[0]}@{place[1]}" if place else "-"
         kind = rng.random()
-        if place and kind < 0.15:
+        if place and kind < 0.05:
             return f"change {self.node} 1\nd {counter}@{self.node} {named}\n", counter
+        if place and kind < 0.12:
+            return self.change_of("d", counter, known.characters, place)
+        if known.removals and kind < 0.15:
+            return self.change_of("v", counter, known.removals, rng.choice(known.removals))
         if place and kind < 0.17:
             other = rng.choice(known.characters)
             word = rng.choice(["m {} strong -", "m {} strong -", "u {} strong"]).format(f"{counter}@{self.node}")
@@ -102,12 +106,20 @@ class Writer(Client):
         line = f"r {counter}@{self.node} {named} {len(codes)} {' '.join(codes)}"
         return f"change2 {self.node} 1\n{line}\n", counter + len(codes) - 1
 
+    def change_of(self, kind, counter, known, first):
+        """Removals, or revivals, of what is known from one id on: up to five ids in a row."""
+        known, (number, of) = set(known), first
+        count = next(count for count in range(1, 6) if count == 5 or (number + count, of) not in known)
+        line = f"{kind} {counter}@{self.node} {number}@{of}" + (f" {count}" if count > 1 else "")
+        return f"change3 {self.node} 1\n{line}\n", counter + count - 1
+
     def wrong_change(self):
         """A change that is refused, and with which number."""
         counter = max(self.own, self.known.counter) + 1
         return self.rng.choice([
             (f"change {self.node} 1\nd {self.own}@{self.node} 1@1\n", "no 46"),
             (f"change {self.node} 1\nd {counter + 1}@{self.node} {counter}@{60000 + self.node}\n", "no 47"),
+            (f"change3 {self.node} 1\nv {counter + 1}@{self.node} {counter}@{60000 + self.node}\n", "no 47"),
             (f"change {self.node} 1\nx\n", "no 40"),
         ]) if self.own else None
 
@@ -153,7 +165,9 @@ class Writer(Client):
                 await self.leave()
         self.own = last
         self.known.counter = max(self.known.counter, last)
-        self.known.characters += [op[1] for op in model.ops_of(text) if op[0] == "i"]
+        ops = model.ops_of(text)
+        self.known.characters += [op[1] for op in ops if op[0] == "i"]
+        self.known.removals += [op[1] for op in ops if op[0] == "d"]
 
 
 class Subscriber(Client):

@@ -1,7 +1,7 @@
 """What a stream of changes makes, apart from hubs and gateways: which changes are accepted, and what each program is sent.
 
-Which change is refused is by tests/models/document.py. Spans are kept from change to change: the order of characters as a list,
-and for each character the greatest strong mark, or removal of one, over it."""
+Which change is refused is by tests/models/document.py, and of revivals by what is added to it here. Spans are kept from change
+to change: the order of characters as a list, and for each character the greatest strong mark, or removal of one, over it."""
 import hashlib
 import itertools
 import pathlib
@@ -38,8 +38,9 @@ def ops_of(text):
             for at, code in enumerate(words[3:]):
                 ops.append(("i", (counter + at, node), parent, int(code, 16)))
                 parent = counter + at, node
-        elif kind == "d":
-            ops.append(("d", id_in(words[0]), id_in(words[1])))
+        elif kind in "dv":
+            (counter, node), (first, of) = id_in(words[0]), id_in(words[1])
+            ops += [(kind, (counter + at, node), (first + at, of)) for at in range(int(words[2]) if words[2:] else 1)]
         elif kind in "mu":
             ops.append((kind, id_in(words[0]), *words[1:-2], anchor_in(words[-2]), anchor_in(words[-1])))
         else:
@@ -47,18 +48,55 @@ def ops_of(text):
     return ops
 
 
+class Rules(document.Document):
+    """What is refused, and what is visible at last: all that isn't named by a removal that no revival names."""
+
+    def __init__(self):
+        super().__init__()
+        self.removals, self.back = {}, set()
+
+    def fault(self, op):
+        if op[0] != "v":
+            return super().fault(op)
+        if op[1][0] <= max(self.counters.get(op[1][1], 0), op[2][0]):
+            return 46
+        return None if op[2] in self.removals else 47
+
+    def take(self, op):
+        if op[0] == "v":
+            self.counters[op[1][1]] = op[1][0]
+            self.back.add(op[2])
+        else:
+            super().take(op)
+        if op[0] == "d":
+            self.removals[op[1]] = op[2]
+        if op[0] in "dv":
+            self.removed = {of for own, of in self.removals.items() if own not in self.back}
+
+
+def accepted(rules, ops):
+    """Takes a change whole; else its fault, with the rules as they were."""
+    before = dict(rules.removals), set(rules.back)
+    fault = document.accepted(rules, ops)
+    if fault:
+        rules.removals, rules.back = before
+    return fault
+
+
 class Text:
     """The spans of each version."""
 
     def __init__(self):
-        self.order, self.codes, self.removed, self.marks, self.greatest = [], {}, set(), [], {}
+        self.order, self.codes, self.standing, self.marks, self.greatest = [], {}, {}, [], {}
 
     def take(self, ops):
         for op in ops:
             if op[0] == "i":
                 self.insert(op[1], op[2], op[3])
             elif op[0] == "d":
-                self.removed.add(op[2])
+                self.standing[op[1]] = op[2]
+            elif op[0] == "v":
+                self.standing.pop(op[2], None)
             else:
                 self.mark(op)
 
@@ -89,7 +127,8 @@ class Text:
     def spans(self):
         def strong(own):
             return self.greatest[own] is not None and self.greatest[own][0] == "m"
-        visible = (own for own in self.order if own not in self.removed)
+        removed = set(self.standing.values())
+        visible = (own for own in self.order if own not in removed)
         return [("".join(self.codes[own] for own in run), key) for key, run in itertools.groupby(visible, strong)]
 
 
@@ -113,7 +152,7 @@ class Played:
     def __init__(self, texts, shows):
         self.replies, self.accepted = [], []
         self.items, self.shown = {program: [] for program in PROGRAMS}, {}
-        rules, text = document.Document(), Text()
+        rules, text = Rules(), Text()
         for change in [None, *texts]:
             if change and not self.accept(rules, text, change):
                 continue
@@ -132,7 +171,7 @@ class Played:
         if ops is None:
             self.replies.append("no 40")
             return False
-        fault = document.accepted(rules, ops)
+        fault = accepted(rules, ops)
         if fault:
             self.replies.append(f"no {fault[0]}")
             return False

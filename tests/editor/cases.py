@@ -45,7 +45,7 @@ def pictures():
         if printed is not None and not line.startswith(" " * 13):
             yield changes, printed
             changes, printed = [], None
-        if re.match("    (change2?|[imudr]) [0-9]", line):
+        if re.match("    (change[23]?|[imudrv]) [0-9]", line):
             changes.append(line.strip())
         elif line.startswith("    prints"):
             printed = [] if "nothing" in line else [line[13:]]
@@ -443,10 +443,11 @@ def try_full_characters(here):
     assert editor.text().endswith("abcxyzv")
     editor.do("find('xyzv', 0)")
     editor.keys(KEYBOARD, BACK)
-    until(lambda: editor.run("return document.getElementById('question').open"), "a character that can't be put back is removed unasked")
-    editor.click("#remove")
     here.compare()
     assert editor.text().endswith("abxyzv")
+    press(editor, "z")
+    here.compare()
+    assert editor.text().endswith("abcxyzv")
 
 
 def try_greatest(hub, editor):

@@ -96,8 +96,9 @@ window.trial = (() => {
     if (document.getElementById("question").open) press("#remove");
   }
 
-  /** A random edit. */
-  async function edit(next) {
+  /** A random edit; so great a share more of undo and redo. */
+  async function edit(next, undoing) {
+    if (undoing > 0 && next() < undoing) return key(next() < 0.65 ? "z" : "y", { ctrlKey: true });
     const pick = list => list[Math.floor(next() * list.length)], most = view.state.doc.content.size;
     const at = Math.floor(next() * (most + 1)), kind = next(), end = at + Math.floor(next() * 12) - 3;
     if (kind < 0.36) { select(at); await type(pick(["a", "be", "cat ", "\u00e9", "\u{1f600}", "the end. "])); }
@@ -115,13 +116,13 @@ window.trial = (() => {
     else await key("y", { ctrlKey: true });
   }
 
-  async function round(seed, count, rest) {
+  async function round(seed, count, rest, undoing = 0) {
     const next = random(seed), errors = [];
     const listen = event => errors.push(String((event.error ?? event.reason)?.stack ?? event.message));
     addEventListener("error", listen);
     addEventListener("unhandledrejection", listen);
     for (let at = 0; at < count; at += 1) {
-      await edit(next);
+      await edit(next, undoing);
       if (next() < 0.1) await pause(rest);
     }
     removeEventListener("error", listen);

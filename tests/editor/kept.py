@@ -6,7 +6,7 @@ import tempfile
 
 from browser import until
 from editors import ROOT, place
-from limits import chord, compare, kept, press
+from limits import BACK, chord, compare, kept, press
 
 CHANGES = ROOT / "examples" / "clients" / "changes.py"
 
@@ -146,9 +146,38 @@ def try_accepted(hub, editor, size):
         until(lambda: stored(editor) == [], lambda: f"{stored(editor)} is kept")
 
 
+def try_put_back(hub, editor, size):
+    """The same of what an undo put back, and the hub doesn't hear of."""
+    with place(hub, [editor], "--size", size) as here:
+        press(editor, *"abc")
+        compare(here, "abc")
+        editor.do("select(0, 3)")
+        press(editor, BACK)
+        compare(here, "c")
+        editor.do("cut()")
+        until(lambda: editor.says("state") == "offline", lambda: str(editor))
+        chord(editor, "z")
+        until(lambda: stored(editor) == ["ab"], lambda: f"{stored(editor)} is kept")
+        new_tab(editor, here.address, 2)
+        assert kept(editor, 1) == ["ab"] and editor.text() == "c", editor.text()
+        editor.click("#unsent button:last-of-type")
+        until(lambda: stored(editor) == [], lambda: f"{stored(editor)} is kept")
+        editor.do("select(0, 2)")
+        press(editor, BACK)
+        compare(here, "")
+        _, latest = here.session.ask("latest")
+        editor.do("deafen()")
+        chord(editor, "z")
+        until(lambda: here.session.ask("latest")[1] == latest + 1, "the hub doesn't hear the page")
+        until(lambda: stored(editor) == ["c"], lambda: f"{stored(editor)} is kept")
+        new_tab(editor, here.address, 3)
+        assert kept(editor, 0) == [] and editor.text() == "c", editor.text()
+
+
 def try_all(hub, editor, pictures):
     for size in ("small", "large"):
         try_joined(hub, editor, size, pictures)
         try_discarded(hub, editor, size)
         try_accepted(hub, editor, size)
-        print(f"try_joined, try_discarded, try_accepted, {size}: as expected", flush=True)
+        try_put_back(hub, editor, size)
+        print(f"try_joined, try_discarded, try_accepted, try_put_back, {size}: as expected", flush=True)

@@ -142,36 +142,46 @@ def replace_all(editor, key):
     press(editor, key)
 
 
-# What is removed and couldn't be put back.
+# What is removed and couldn't be put back, since no changes are left. Characters are always left for it: nothing is copied.
+
+def leave_changes(here, size, left, done):
+    """Of the changes that there can be so many are left, behind so many."""
+    add_changes(here, size.changes - done - left)
+
+
+def takes(changes, left):
+    return f"that takes {changes} change{'' if changes == 1 else 's'}, and the document takes {left} more."
+
 
 def try_removal(here, size, pictures):
-    """20,000 characters where there is room for 12,768 more: the page asks; no, by two keys; yes, by the keyboard alone; then undo
-    changes nothing, and says why."""
+    """Where the hub takes three more changes: a line is removed, unasked; the rest could only be put back without that line, and the page
+    asks; no, by two keys; yes, by the keyboard alone; then undo changes nothing, and says why."""
     editor = here.editors[0]
     text = in_lines(20000)
-    waste(here, size.characters - 32768)
     add_text(here, text)
+    leave_changes(here, size, 3, 79)
     compare(here, text)
-    assert room(editor)[:2] == [12768, VISIBLE_BYTES - 20000], room(editor)
+    assert room(editor)[1] == VISIBLE_BYTES - 20000 and room(editor)[3] == 3 and "and 3 changes" in editor.says("room"), room(editor)
+    # A line with its end, which positions count twice.
+    editor.do("select(1, 66)")
+    press(editor, DELETE)
+    text = text[64:]
+    compare(here, text)
+    assert not is_asked(editor)
     before = version(here)
+    asked = "Remove 19,936 characters?", f"Undo couldn't put all that you removed back: {takes(2, 1)}"
     for answer in ([ESCAPE], [ENTER], [SPACE]):
         replace_all(editor, DELETE)
-        title, why = question(editor)
-        assert title == "Remove 20,000 characters?", title
-        assert why == "Undo couldn't put them back: that takes room for 20,000 characters, and there is room for 12,768: removed ones " \
-            "count too.", why
+        assert question(editor) == asked, question(editor)
         if pictures and answer == [ESCAPE]:
             editor.take_picture(pictures / f"question-{size.name}.png")
         press(editor, *answer)
         assert not is_asked(editor) and version(here) == before
         compare(here, text)
-    replace_all(editor, "x")
-    assert question(editor)[0] == "Remove 20,000 characters?" and "room for 12,767" in editor.says("why"), question(editor)
-    press(editor, ESCAPE)
-    select_all(editor)
-    chord(editor, "x")
-    assert question(editor)[0] == "Remove 20,000 characters?"
-    press(editor, ESCAPE)
+    for act in (lambda: replace_all(editor, "x"), lambda: (select_all(editor), chord(editor, "x"))):
+        act()
+        assert question(editor) == asked, question(editor)
+        press(editor, ESCAPE)
     compare(here, text)
     assert version(here) == before
     replace_all(editor, DELETE)
@@ -180,66 +190,42 @@ def try_removal(here, size, pictures):
     here.peer.insert(9000, "[stays]")
     until(lambda: editor.run("return hub.replica.version") == before + 1, lambda: str(editor))
     press(editor, TAB, ENTER)
-    assert question(editor)[0] == "Remove 20,007 characters?", question(editor)
+    assert question(editor) == ("Remove 19,943 characters?", f"Undo couldn't put all that you removed back: {takes(2, 0)}"), question(editor)
     press(editor, TAB, ENTER)
     compare(here, "")
-    # 20,000 of the session's, 7 of the peer's.
-    assert room(editor)[0] == 12761, room(editor)
-    before = version(here)
+    assert room(editor)[3] == 0 and version(here) == size.changes, room(editor)
     quiet(editor)
     chord(editor, "z")
     said = editor.says("notice")
-    assert said == "20,007 characters can't be put back. The text is full: it takes 12,761 more characters; removed ones count too.", said
+    assert said == "19,943 characters can't be put back. This document is full: it takes no more changes.", said
+    press(editor, "a")
     compare(here, "")
-    assert version(here) == before
-    press(editor, "a", "b", BACK)
-    compare(here, "a")
 
 
-def try_removals(here, size):
-    """Two removals that could each be put back, and not both: the second one asks. Once that is answered, few characters are removed
-    without a question."""
+def try_redo(here, size):
+    """A redo that removes what undo couldn't put back again asks, and an undo that removes what redo couldn't."""
     editor = here.editors[0]
     text = in_lines(20000)
-    waste(here, size.characters - 32768)
     add_text(here, text)
+    leave_changes(here, size, 3, 79)
     compare(here, text)
     # Positions count the end of a line twice.
     editor.do("select(1, arguments[0])", 1 + 12000 + 12000 // 64)
     press(editor, DELETE)
     compare(here, text[12000:])
-    replace_all(editor, BACK)
-    title, why = question(editor)
-    assert title == "Remove 8,000 characters?", title
-    assert why == "Undo couldn't put all that you removed back: that takes room for 20,000 characters, and there is room for 12,768: " \
-        "removed ones count too.", why
-    press(editor, ESCAPE)
     chord(editor, "z")
     compare(here, text)
-    assert room(editor)[0] == 768, room(editor)
-    # Redo would remove 12,000, and they couldn't be put back again.
     before = version(here)
-    chord(editor, "y")
-    assert question(editor) == ("Redo, and remove 12,000 characters?", "Undo couldn't put them back: that takes room for 12,000 characters, "
-                                "and there is room for 768: removed ones count too."), question(editor)
-    press(editor, ESCAPE)
-    compare(here, text)
-    assert version(here) == before
-    chord(editor, "y")
-    question(editor)
-    press(editor, TAB, ENTER)
-    compare(here, text[12000:])
-    assert room(editor)[0] == 768, room(editor)
+    for answer in ([ESCAPE], [TAB, ENTER]):
+        chord(editor, "y")
+        assert question(editor) == ("Redo, and remove 12,000 characters?", f"Undo couldn't put them back: {takes(1, 0)}"), question(editor)
+        press(editor, *answer)
+        compare(here, text if answer == [ESCAPE] else text[12000:])
+        assert version(here) == before + (answer != [ESCAPE])
     quiet(editor)
-    editor.do("select(1)")
-    press(editor, DELETE, DELETE)
-    compare(here, text[12002:])
-    assert not is_asked(editor), "what can be put back is asked"
-    for _ in range(2):
-        chord(editor, "z")
-    compare(here, text[12000:])
     chord(editor, "z")
-    assert "12,000 characters can't be put back" in editor.says("notice"), editor.says("notice")
+    said = editor.says("notice")
+    assert said == "12,000 characters can't be put back. This document is full: it takes no more changes.", said
     compare(here, text[12000:])
 
 
@@ -247,15 +233,15 @@ def try_pasted(here, size):
     """An undo that removes what redo couldn't put back asks; once that is done, redo changes nothing, and says why."""
     editor = here.editors[0]
     text = in_lines(20000)
-    waste(here, size.characters - 32768)
+    leave_changes(here, size, 80, 0)
     here.compare()
     editor.do("select(0); await paste(arguments[0])", text)
     compare(here, text)
     before = version(here)
+    assert before == size.changes - 1
     editor.run("hubView.focus()")
     chord(editor, "z")
-    assert question(editor) == ("Undo, and remove 20,000 characters?", "Redo couldn't put them back: that takes room for 20,000 characters, "
-                                "and there is room for 12,768: removed ones count too."), question(editor)
+    assert question(editor) == ("Undo, and remove 20,000 characters?", f"Redo couldn't put them back: {takes(1, 0)}"), question(editor)
     press(editor, ENTER)
     compare(here, text)
     assert version(here) == before
@@ -263,72 +249,39 @@ def try_pasted(here, size):
     question(editor)
     press(editor, TAB, ENTER)
     compare(here, "")
-    before = version(here)
     chord(editor, "y")
     assert editor.says("notice").startswith("20,000 characters can't be put back."), editor.says("notice")
     compare(here, "")
-    assert version(here) == before
-
-
-def try_half(here, size):
-    """Half of all characters: removed and put back without a question, since that just fits; then nothing is left, and one character
-    asks. Who says so isn't asked again for one."""
-    editor = here.editors[0]
-    text = in_lines(size.characters // 2)
-    add_text(here, text)
-    compare(here, text)
-    replace_all(editor, DELETE)
-    compare(here, "")
-    assert not is_asked(editor)
-    chord(editor, "z")
-    compare(here, text)
-    assert room(editor)[0] == 0 and "Room for 0 characters" in editor.says("room"), (room(editor), editor.says("room"))
-    editor.do("select(2)")
-    press(editor, BACK)
-    assert question(editor) == ("Remove 1 character?", "Undo couldn't put it back: that takes room for 1 character, and there is room for 0: "
-                                "removed ones count too."), question(editor)
-    editor.click("#waive")
-    editor.click("#remove")
-    compare(here, text[1:])
-    press(editor, DELETE)
-    compare(here, text[2:])
-    assert not is_asked(editor)
-    replace_all(editor, DELETE)
-    assert question(editor)[0] == f"Remove {size.characters // 2 - 2:,} characters?", question(editor)
-    press(editor, ESCAPE)
-    quiet(editor)
-    press(editor, "x")
-    assert editor.says("notice") == "The text is full: it takes no more characters; removed ones count too.", editor.says("notice")
-    compare(here, text[2:])
+    assert version(here) == size.changes
 
 
 def try_few_changes(here, size):
-    """2,560 characters where the hub takes 15 more changes: 10 to remove them, and 10 to put them back. At the last change each is told."""
+    """The last changes but two: one character is removed unasked, the next one asks. Who says so isn't asked again for one. At the last
+    change all is told."""
     editor = here.editors[0]
     text = in_lines(2560)
     add_text(here, text)
-    add_changes(here, size.changes - 10 - 15)
+    leave_changes(here, size, 3, 10)
     compare(here, text)
-    assert room(editor)[3] == 15 and "and 15 changes" in editor.says("room"), (room(editor), editor.says("room"))
-    replace_all(editor, DELETE)
-    assert question(editor) == ("Remove 2,560 characters?", "Undo couldn't put them back: that takes 10 changes, and the document takes 5 "
-                                "more."), question(editor)
-    press(editor, ESCAPE)
-    compare(here, text)
-    replace_all(editor, DELETE)
-    question(editor)
-    press(editor, TAB, ENTER)
-    compare(here, "")
-    chord(editor, "z")
-    said = editor.says("notice")
-    assert said == "2,560 characters can't be put back. This takes 10 changes, and the document takes 5 more.", said
-    for turn in range(5):
-        press(editor, "abcde"[turn])
-        compare(here, "abcde"[:turn + 1])
+    assert room(editor)[3] == 3 and "and 3 changes" in editor.says("room"), (room(editor), editor.says("room"))
+    editor.do("select(2)")
+    press(editor, BACK)
+    compare(here, text[1:])
+    assert not is_asked(editor)
+    press(editor, DELETE)
+    assert question(editor) == ("Remove 1 character?", f"Undo couldn't put all that you removed back: {takes(2, 1)}"), question(editor)
+    editor.click("#waive")
+    editor.click("#remove")
+    compare(here, text[2:])
+    press(editor, DELETE)
+    compare(here, text[3:])
+    assert not is_asked(editor) and room(editor)[3] == 0
     quiet(editor)
     press(editor, "f")
     assert editor.says("notice") == "This document is full: it takes no more changes.", editor.says("notice")
-    compare(here, "abcde")
+    replace_all(editor, DELETE)
+    assert editor.says("notice") == "This document is full: it takes no more changes." and not is_asked(editor), editor.says("notice")
+    compare(here, text[3:])
     assert version(here) == size.changes
 
 
@@ -488,7 +441,7 @@ def try_filters(hub, editor, size, program):
 
 
 def try_all(hub, editor, program, pictures):
-    alone = [try_removals, try_pasted, try_half, try_few_changes, try_full_characters, try_full_bytes, try_full_marks]
+    alone = [try_redo, try_pasted, try_few_changes, try_full_characters, try_full_bytes, try_full_marks]
     for size in SIZES:
         with place(hub, [editor], "--size", size.name) as here:
             try_removal(here, size, pictures)

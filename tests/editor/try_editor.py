@@ -1,14 +1,15 @@
 #!/usr/bin/env python3
 """Tries the editor of examples/editor in browsers:
-try_editor.py [HUB] [--only PART].. [--rounds N] [--operations N] [--seed N] [--pictures FOLDER]
+try_editor.py [HUB] [--only PART].. [--rounds N] [--operations N] [--quick] [--seed N] [--pictures FOLDER]
 
 HUB is the executable, by default $HUB or `hub`; it serves the editor itself. It takes Chromium and its driver (Debian: chromium,
 chromium-driver), and a built examples/editor. The parts: `cases`, each thing by itself: marks at their ends, undo, composition, paste, drag,
 a hub that is full or gone; `limits`, those of both sizes, what undo can't put back, and a session's share; `kept`, what isn't sent, over
-another hub, a reload and a closed tab; `node`, the client outside a browser; `store`, a hub that keeps its changes and is ended and started
-again; `rounds`, in which three editors and a peer of peer.py edit one text at random, one of the editors cut off for a while, after each
-of which all four show the hub's text; and `speed`, the time from a key to the screen in a full text, which is printed. Nothing passes or
-fails by a time: what doesn't come is waited for, and told."""
+another hub, a reload and a closed tab; `undo`, which copies nothing and loses nothing: of a whole text ten times over, by two editors, by
+clients outside browsers, and in a day of writing (with --quick less of it); `node`, the client outside a browser; `store`, a hub that keeps
+its changes and is ended and started again; `rounds`, in which three editors and a peer of peer.py edit one text at random, one of the
+editors cut off for a while, after each of which all four show the hub's text; and `speed`, the time from a key to the screen in a full
+text, which is printed. Nothing passes or fails by a time: what doesn't come is waited for, and told."""
 import argparse
 import os
 import pathlib
@@ -20,11 +21,12 @@ import cases
 import kept
 import limits
 import outside
+import undo
 from browser import number_in, program
 from editors import Editor, place
 
 ROUNDS_A_HUB = 5
-PARTS = ["cases", "limits", "kept", "node", "store", "rounds", "speed"]
+PARTS = ["cases", "limits", "kept", "undo", "node", "store", "rounds", "speed"]
 KEYS = ["strong", "em", "code", "comment:7", "link", "color"]
 
 
@@ -39,8 +41,11 @@ def peer_at_random(peer, rng, count):
         kind = rng.random()
         if kind < 0.5 or first == end:
             peer.insert(first, rng.choice(["p", "qr", "peer ", "\n", "\U0001f40d"]))
-        elif kind < 0.7:
+        elif kind < 0.65:
             peer.remove(first, end)
+        elif kind < 0.7:
+            if peer.removed:
+                peer.restore()
         else:
             key = rng.choice(KEYS)
             if rng.random() < 0.25:
@@ -95,6 +100,7 @@ def main():
     parser.add_argument("--only", action="append", choices=PARTS)
     parser.add_argument("--rounds", type=int, default=20)
     parser.add_argument("--operations", type=int, default=500)
+    parser.add_argument("--quick", action="store_true")
     parser.add_argument("--seed", type=int, default=random.randrange(1 << 31))
     parser.add_argument("--pictures", type=pathlib.Path)
     arguments = parser.parse_args()
@@ -110,6 +116,8 @@ def main():
                 limits.try_all(arguments.hub, editors[0], str(cases.FILTERS / "question.hex"), arguments.pictures)
             if "kept" in parts:
                 kept.try_all(arguments.hub, editors[0], arguments.pictures)
+            if "undo" in parts:
+                undo.try_all(arguments.hub, editors, random.Random(arguments.seed), arguments.quick)
             if "node" in parts:
                 outside.try_node(arguments.hub)
             if "store" in parts:

@@ -12,10 +12,11 @@ from concurrent.futures import ThreadPoolExecutor
 sys.path.insert(0, str(pathlib.Path(__file__).resolve().parent.parent.parent / "bench"))
 from counted import install  # noqa: E402
 import hostile_counts  # noqa: E402
+import revival_counts  # noqa: E402
 import wide_counts  # noqa: E402
 from hostile_counts import Figure, heading  # noqa: E402
 
-ROWS = hostile_counts.ROWS | wide_counts.ROWS
+ROWS = hostile_counts.ROWS | wide_counts.ROWS | revival_counts.ROWS
 
 
 def main():

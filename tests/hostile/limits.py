@@ -40,6 +40,7 @@ def try_counter():
         assert refused(hostile, "no 42 Limit line 2", *change)
         old.insert(0, "abc")
         assert refused(hostile, "no 42 Limit line 2", *change)
+        assert refused(hostile, "no 42 Limit line 2", "change3 9 1", "d 4@9 1@1 65535")
         new = Peer(hub.port)
         new.follow()
         new.insert(3, "def" * 200)

@@ -43,9 +43,9 @@ class Bad(Exception):
 
 
 def read_change(text):
-    """The operations of each line of a change: kind, id, parent or removed or start, letter or end."""
+    """The operations of each line of a change: kind, id, parent or removed or removal or start, letter or end."""
     lines = text.split('\n')
-    head = re.fullmatch(r'(change2?) (\d+) (\d+)', lines[0])
+    head = re.fullmatch(r'(change[23]?) (\d+) (\d+)', lines[0])
     if not head:
         raise Bad('40 BadLine line 1')
     node, count = int(head[2]), int(head[3])
@@ -53,8 +53,10 @@ def read_change(text):
     for at in range(1, count + 1):
         if at >= len(lines) - 1:
             raise Bad('41 Truncated')
-        if head[1] == 'change2' and lines[at].startswith('r '):
+        if head[1] != 'change' and lines[at].startswith('r '):
             change.append(read_run(lines[at], at + 1))
+        elif head[1] == 'change3' and lines[at][:2] in ('d ', 'v '):
+            change.append(read_removals(lines[at]))
         else:
             change.append([read_operation(lines[at], at + 1)])
     if lines[count + 1:] != ['']:
@@ -79,6 +81,13 @@ def read_run(line, number):
         raise Bad(f'40 BadLine line {number}')
     ids = [(counter + at, node) for at in range(len(codes))]
     return [('i', i, p, chr(int(code, 16))) for i, p, code in zip(ids, [parent] + ids, codes)]
+
+
+def read_removals(line):
+    """A removal or a revival, or a run of them."""
+    kind, first, named, *count = line.split(' ')
+    (counter, node), (other, peer) = read_id(first), read_id(named)
+    return [(kind, (counter + at, node), (other + at, peer), None) for at in range(int(*count or '1'))]
 
 
 def read_operation(line, number):
@@ -113,7 +122,7 @@ def write_operation(o):
 
 
 def named(o):
-    if o[0] in 'id':
+    if o[0] in 'idv':
         return [o[2]] if o[2] else []
     return [p[1] for p in (o[2], o[3]) if p[1]]
 
@@ -122,7 +131,7 @@ class History:
     def __init__(self):
         self.operations, self.ends = [], [0]
         self.last, self.there, self.marks = {}, set(), 0
-        self.known = {}
+        self.known, self.removals = {}, set()
 
     def latest(self):
         return len(self.ends) - 1
@@ -130,7 +139,7 @@ class History:
     def refusal(self, o):
         if any(o[1][0] <= n[0] for n in named(o)) or o[1][0] <= self.last.get(o[1][1], 0):
             return '46 StaleCounter'
-        if any(n not in self.there for n in named(o)):
+        if any(n not in (self.removals if o[0] == 'v' else self.there) for n in named(o)):
             return '47 UnknownRef'
         if o[0] == 'i' and len(self.there) == 32768:
             return '48 DocumentFull'
@@ -143,6 +152,8 @@ class History:
         self.last[o[1][1]] = o[1][0]
         if o[0] == 'i':
             self.there.add(o[1])
+        if o[0] == 'd':
+            self.removals.add(o[1])
         if o[0] in 'mu':
             self.marks += 1
 
@@ -156,6 +167,7 @@ class History:
             if why:
                 del self.operations[before[0]:]
                 self.last, self.there, self.marks = before[1:]
+                self.removals = {p[1] for p in self.operations if p[0] == 'd'}
                 return None, f'{why} op {index}'
             self.put(o)
         self.ends.append(len(self.operations))
@@ -176,12 +188,13 @@ def place_behind(elements, i):
 
 def spans(operations):
     """The runs of characters that are shown and equally strong."""
+    back = {o[2] for o in operations if o[0] == 'v'}
     elements, removed, marks = [], set(), []
     rising = sorted(operations, key=lambda o: o[1])
     for o in rising:
         if o[0] == 'i':
             elements.insert(place_behind(elements, o[2]) if o[2] else 0, (o[1], o[3]))
-        elif o[0] == 'd':
+        elif o[0] == 'd' and o[1] not in back:
             removed.add(o[2])
     places = {e[0]: at for at, e in enumerate(elements)}
 

@@ -91,6 +91,13 @@ class Editor:
         first = 0 if count == 24 else first
         return [("d", (own[0] + at, own[1]), one) for at, one in enumerate(there[first:first + count])]
 
+    def undone(self, own):
+        """Some removals that came one after the other are taken back, or were already."""
+        removals, rng = sorted(self.known.removals), self.rng
+        first, count = rng.randrange(len(removals)), rng.choice([1, 1, 2, 4, 24])
+        part = text.consecutive(removals[first:first + count])[0]
+        return text.id_run_of("v", own, part[0], len(part))
+
     def ends(self, there):
         """The ends of a mark over a few characters, over many, or over all."""
         rng = self.rng
@@ -119,6 +126,8 @@ class Editor:
 
     def edit(self, own):
         there = self.visible()
+        if self.known.removals and self.rng.random() < 0.15:
+            return self.undone(own)
         ways = [self.typed] * 4 + [self.removed, self.removed] * bool(there) + [self.marked] * 4 * bool(there)
         return self.rng.choice(ways)(own, there)
 
@@ -133,11 +142,13 @@ class Editor:
             made.append(self.edit((made[0][-1][1][0] + 1, own[1])))
         lines = []
         for ops in made:
-            lines += [ops] if ops[0][0] == "i" else [[op] for op in ops]
+            lines += [ops] if ops[0][0] in "iv" else [[op] for op in ops]
         return self.spelled(own[1], lines)
 
     def spelled(self, node, lines):
-        """Runs, and the key `code`, are of the second form."""
+        """Revivals are of the third form, runs of characters and the key `code` of the second."""
+        if any(ops[0][0] == "v" for ops in lines):
+            return text.change_lines(3, node, lines)
         is_second = any(len(ops) > 1 or ops[0][0] in "mu" and ops[0][2][0] == "code" for ops in lines)
         return text.change_lines(2 if is_second or self.rng.random() < 0.5 else 1, node, lines)
 

@@ -6,29 +6,37 @@ from typing import NamedTuple
 
 from cases import Cases
 from document import change_lines, line_of, name_of
+from revivals import random_history as history_of_revivals
+from text import MEANT, count_of
 from texts import random_history
 
 MOST = 256
 
 
 class Change(NamedTuple):
-    """A change by its text: 1 or 2 of its form, its peer, its lines, and how many operations these mean."""
+    """A change by its text: 1 to 3 of its form, its peer, its lines, how many operations they count as, and how many they mean."""
     form: int
     node: int
     lines: list
     count: int
+    meant: int
 
     def text(self):
-        return "".join(f"{line}\n" for line in [f"change{'2' * (self.form == 2)} {self.node} {len(self.lines)}", *self.lines])
+        word = f"change{self.form if self.form > 1 else ''}"
+        return "".join(f"{line}\n" for line in [f"{word} {self.node} {len(self.lines)}", *self.lines])
+
+
+def are_few(count, meant):
+    return count <= MOST and meant <= MEANT
 
 
 def joined(changes):
-    """The changes, with each appended to the last one where it is the same peer's and both have 256 operations at most."""
+    """The changes, with each appended to the last one where it is the same peer's and both are within the limits of one."""
     out = []
     for change in changes:
-        if out and out[-1].node == change.node and out[-1].count + change.count <= MOST:
+        if out and out[-1].node == change.node and are_few(out[-1].count + change.count, out[-1].meant + change.meant):
             last = out.pop()
-            change = Change(max(last.form, change.form), last.node, last.lines + change.lines, last.count + change.count)
+            change = Change(max(last.form, change.form), last.node, last.lines + change.lines, last.count + change.count, last.meant + change.meant)
         out.append(change)
     return out
 
@@ -37,10 +45,11 @@ def fewest(changes):
     """How many changes are enough, whatever neighbors are put together: the least of all ways."""
     least = [0]
     for end in range(1, len(changes) + 1):
-        best, count, start = end, 0, end
-        while start and changes[start - 1].node == changes[end - 1].node and count + changes[start - 1].count <= MOST:
+        best, count, meant, start = end, 0, 0, end
+        while (start and changes[start - 1].node == changes[end - 1].node
+               and are_few(count + changes[start - 1].count, meant + changes[start - 1].meant)):
             start -= 1
-            count += changes[start].count
+            count, meant = count + changes[start].count, meant + changes[start].meant
             best = min(best, least[start] + 1)
         least.append(best)
     return least[-1]
@@ -70,8 +79,8 @@ def change_of(rng, node, ops):
     if rng.random() < 0.5:
         lines, has_run = with_runs(ops)
         if has_run or rng.random() < 0.3:
-            return Change(2, node, lines, len(ops))
-    return Change(1, node, change_lines(node, ops)[1:], len(ops))
+            return Change(2, node, lines, len(ops), len(ops))
+    return Change(1, node, change_lines(node, ops)[1:], len(ops), len(ops))
 
 
 def typed_history(rng, peers, changes):
@@ -93,8 +102,10 @@ def typed_history(rng, peers, changes):
     return history
 
 
-def any_history(rng):
+def any_history(rng, has_revivals=False):
     """Random changes of one kind or the other, with the peers that made them."""
+    if has_revivals:
+        return revived_history(rng)
     peers = [1, 2, 3, 7, 65535][:rng.randrange(1, 4)]
     if rng.random() < 0.5:
         history = random_history(rng, rng.randrange(0, 24), peers)
@@ -103,15 +114,35 @@ def any_history(rng):
     return [change_of(rng, node, ops) for node, ops in history]
 
 
+def changes_of(history):
+    """The changes of a history of revivals.py."""
+    return [Change(made.form, made.node, made.written()[1:], sum(map(count_of, made.lines)), sum(map(len, made.lines))) for made in history]
+
+
+def revived_history(rng):
+    """Random changes with removals that are taken back."""
+    return changes_of(history_of_revivals(rng, rng.randrange(1, 40))[0])
+
+
 def whole(changes):
     return "".join(change.text() for change in changes)
+
+
+def meant_rows(cases):
+    """Runs of removals of 2,048 characters: 128 of them are 262,144 operations, so the next one stands apart. By hand."""
+    text = [["change2 1 1", f"r {256 * at + 1}@1 {f'{256 * at}@1' if at else '-'} 256" + " 61" * 256] for at in range(8)]
+    runs = [f"d {2049 + 2048 * at}@1 1@1 2048" for at in range(129)]
+    last = f"i {2049 + 2048 * 129}@1 - 62"
+    lines = [line for change in text for line in change]
+    given = lines + [line for run in runs for line in ("change3 1 1", run)] + ["change 1 1", last]
+    cases.add("join-runs-of-removals", ["join"], [*lines, "change3 1 128", *runs[:128], "change3 1 2", runs[128], last], lines=given)
 
 
 def main():
     rng, cases = random.Random(41), Cases()
     cases.heading("Changes joined. The joined texts were worked out by tests/models/joins.py.")
     cases.add("join-nothing", ["join"], [])
-    keys = [Change(1, 1, [f"i {n}@1 {f'{n - 1}@1' if n > 1 else '-'} 61"], 1) for n in range(1, 258)]
+    keys = [Change(1, 1, [f"i {n}@1 {f'{n - 1}@1' if n > 1 else '-'} 61"], 1, 1) for n in range(1, 258)]
     cases.add("join-257-keys", ["join"], whole(joined(keys)).splitlines(), lines=whole(keys).splitlines())
     for number in range(1, 9):
         changes = any_history(rng)
@@ -123,6 +154,14 @@ def main():
     cases.add("join-unknown", ["join"], ["refused 47 UnknownRef change 2 line 2"], 1, lines=(first + "change 1 1\nd 2@1 1@2\n").splitlines())
     cases.add("join-bad-line", ["join"], ["refused 40 BadLine change 2 line 1"], 1, lines=(first + "change 1  1\n").splitlines())
     cases.add("join-truncated", ["join"], ["refused 41 Truncated change 2"], 1, lines=(first + "change 1 1\n").splitlines())
+    for number in range(1, 5):
+        changes = revived_history(rng)
+        cases.add(f"join-revivals-{number}", ["join"], whole(joined(changes)).splitlines(), lines=whole(changes).splitlines())
+    letters = "change2 1 1\nr 1@1 - 3 61 62 63\n"
+    forms = letters + "change 1 1\nd 4@1 2@1\nchange3 1 2\nv 5@1 4@1\nd 6@1 1@1 3\nchange 1 1\ni 9@1 - 64\n"
+    want = ["change3 1 5", "r 1@1 - 3 61 62 63", "d 4@1 2@1", "v 5@1 4@1", "d 6@1 1@1 3", "i 9@1 - 64"]
+    cases.add("join-of-three-forms", ["join"], want, lines=forms.splitlines())
+    meant_rows(cases)
     cases.write(sys.argv[1], "joins")
 
 

@@ -1,10 +1,10 @@
-"""Changes of both forms read and taken in, and what `hub spans` and sessions say of them, apart from the code of the hub.
+"""Changes of all three forms read and taken in, and what `hub spans` and sessions say of them, apart from the code of the hub.
 
     text.py spans [WORDS..] < CHANGES    prints what `hub spans` prints of them, with these options
     text.py replay [WORDS..] < LINES     prints what `hub replay` prints with these options, where all programs are of PROGRAMS
     text.py check STDIN STDOUT           compares the cases of `spans` and of such sessions, as crates/test_cases has them, with this model
     text.py rows FOLDER..                compares folders of worked rows (NAME, NAME.args, NAME.stdout) with it
-    text.py cases FOLDER                 writes random cases of both forms, FOLDER/text.stdin and FOLDER/text.stdout
+    text.py cases FOLDER                 writes random cases of the first two forms, FOLDER/text.stdin and FOLDER/text.stdout
 
 The rules are those of docs/CHANGE_FORMAT.md, docs/PERITEXT.md, docs/REFUSALS.md and docs/SESSIONS.md. Characters are a tree; a format is what
 each key's last mark over a character says, looked for among all marks.
@@ -25,6 +25,8 @@ NAMES = {40: "BadLine", 41: "Truncated", 42: "Limit", 43: "CharRefused", 44: "Wr
 # The most changes, characters and marks by size; how many bytes are shown at each.
 SIZES = {"small": (4096, 32768, 4096), "large": (65536, 262144, 16384)}
 BYTES, OPERATIONS = 131072, 256
+# How many operations a run of removals or of revivals may mean, and a whole change.
+RUN, MEANT = 65535, 262144
 # Subscribers in all, closed ones counted, and at one time.
 SUBSCRIBERS = {"small": (64, 64), "large": (4096, 256)}
 # How many MiB of a document's memory are left for each change.
@@ -80,7 +82,7 @@ def code_in(word):
 
 def key_in(form, word):
     """A key: its name, and a comment's number."""
-    if word in ("strong", "em", "link", "color") or form == 2 and word == "code":
+    if word in ("strong", "em", "link", "color") or form > 1 and word == "code":
         return word, None
     if not word.startswith("comment:"):
         raise Refused(40)
@@ -112,15 +114,16 @@ def shape_of(form, line):
         own, parent, code = fields(words, 4)
         own, parent, code = id_in(own), parent_in(parent), code_in(code)
         return "i", own, [parent] if parent else [], (parent, [code])
-    if words[0] == "d":
-        own, target = fields(words, 3)
-        return "d", id_in(own), [id_in(target)], id_in(target)
+    if words[0] == "d" or words[0] == "v" and form == 3:
+        own, target, *count = fields(words, 4 if form == 3 and len(words) == 4 else 3)
+        own, target, count = id_in(own), id_in(target), number_in(count[0]) if count else None
+        return words[0], own, [target], (target, count)
     if words[0] in ("m", "u"):
         own, key, *value, start, end = fields(words, 6 if words[0] == "m" else 5)
         own, key, ends = id_in(own), key_in(form, key), (anchor_in(start), anchor_in(end))
         value = value_in(key, value[0]) if value else None
         return words[0], own, [at for _, at in ends if at], (key, value, ends)
-    if words[0] == "r" and form == 2 and len(words) >= 4:
+    if words[0] == "r" and form > 1 and len(words) >= 4:
         own, parent, count = id_in(words[1]), parent_in(words[2]), number_in(words[3])
         codes = [code_in(word) for word in words[4:]]
         if len(codes) != count:
@@ -136,6 +139,9 @@ def are_within(shape):
         return False
     if kind == "r":
         return 2 <= len(part[1]) <= OPERATIONS and own[0] + len(part[1]) - 1 <= COUNTER
+    if kind in "dv":
+        target, count = part
+        return count is None or 2 <= count <= RUN and max(own[0], target[0]) + count - 1 <= COUNTER
     if kind in "mu":
         (key, comment), value = part[:2]
         return (key != "comment" or 1 <= comment <= COMMENT) and (key != "link" or kind == "u" or len(value) <= LINK)
@@ -149,19 +155,40 @@ def run_of(own, parent, codes):
     return [("i", own, behind, code) for own, behind, code in zip(ids, [parent] + ids, codes)]
 
 
+def id_run_of(kind, own, first, count):
+    """Removals, or revivals, with consecutive ids, of as many consecutive ids."""
+    return [(kind, (own[0] + at, own[1]), (first[0] + at, first[1])) for at in range(count)]
+
+
+def consecutive(ids):
+    """Ids in parts, in each of which every next one is the same peer's and greater by one."""
+    parts = []
+    for own in ids:
+        if parts and (parts[-1][-1][0] + 1, parts[-1][-1][1]) == own:
+            parts[-1].append(own)
+        else:
+            parts.append([own])
+    return parts
+
+
 def operations_of(shape):
-    """The operations that a line stands for: ("i", id, parent, code), ("d", id, id), ("m" or "u", id, key, value, ends)."""
+    """The operations that a line means: ("i", id, parent, code), ("d", id, character), ("v", id, removal), ("m" or "u", id, key, value, ends)."""
     kind, own, _, part = shape
-    if kind == "d":
-        return [("d", own, part)]
+    if kind in "dv":
+        return id_run_of(kind, own, part[0], part[1] or 1)
     return [(kind, own) + part] if kind in "mu" else run_of(own, *part)
 
 
+def count_of(ops):
+    """How many of a change's 256 operations a line with these is: a run of removals or of revivals is one."""
+    return 1 if ops[0][0] in "dv" else len(ops)
+
+
 def named(op):
-    """The characters that an operation names."""
+    """The ids that an operation names: of characters, or a revival's removal."""
     if op[0] == "i":
         return [op[2]] if op[2] else []
-    return [op[2]] if op[0] == "d" else [at for _, at in op[4] if at]
+    return [op[2]] if op[0] in "dv" else [at for _, at in op[4] if at]
 
 
 def is_character(code):
@@ -169,10 +196,12 @@ def is_character(code):
 
 
 def read_line(form, peer, before, line):
-    """The operations of a line, behind the `before` operations of its change's earlier lines."""
+    """The operations of a line, behind its change's earlier lines, which count as `before` and mean so many."""
     shape = shape_of(form, line)
-    ops = operations_of(shape)
-    if not are_within(shape) or before + len(ops) > OPERATIONS:
+    if not are_within(shape):
+        raise Refused(42)
+    ops, (counted, meant) = operations_of(shape), before
+    if counted + count_of(ops) > OPERATIONS or meant + len(ops) > MEANT:
         raise Refused(42)
     if any(op[0] == "i" and not is_character(op[3]) for op in ops):
         raise Refused(43)
@@ -181,15 +210,18 @@ def read_line(form, peer, before, line):
     return ops
 
 
+FORMS = {"change": 1, "change2": 2, "change3": 3}
+
+
 def read_header(line):
     """The form of a change, the peer's node, and the count of lines."""
     words = line.split(" ")
-    if len(words) != 3 or words[0] not in ("change", "change2"):
+    if len(words) != 3 or words[0] not in FORMS:
         raise Refused(40)
     node, count = number_in(words[1]), number_in(words[2])
     if not (1 <= node <= NODE and 1 <= count <= OPERATIONS):
         raise Refused(42)
-    return 2 if words[0] == "change2" else 1, node, count
+    return FORMS[words[0]], node, count
 
 
 def at_line(number, read, *arguments):
@@ -205,13 +237,13 @@ def read_change(text):
     if not lf:
         raise Refused(41)
     form, peer, count = at_line(1, read_header, header)
-    lines, before = [], 0
+    lines, before = [], (0, 0)
     for number in range(2, count + 2):
         line, lf, after = rest.partition("\n")
         if not lf:
             raise Refused(41)
         lines.append(at_line(number, read_line, form, peer, before, line))
-        before, rest = before + len(lines[-1]), after
+        before, rest = (before[0] + count_of(lines[-1]), before[1] + len(lines[-1])), after
     return lines, rest
 
 
@@ -224,36 +256,67 @@ def length_of(code):
 class Text:
     def __init__(self, size="small"):
         self.parents, self.codes, self.removed, self.marks, self.counters, self.changes = {}, {}, set(), [], {}, 0
+        # The character of each removal, the removals that are taken back, and those of each hidden character that aren't.
+        self.removals, self.back, self.standing = {}, set(), {}
         self.limits, self.bytes = SIZES[size], 0
 
     def fault(self, op):
         counter, node = op[1]
         if counter <= self.counters.get(node, 0) or any(counter <= other for other, _ in named(op)):
             return 46
-        if any(at not in self.codes for at in named(op)):
+        if any(at not in (self.removals if op[0] == "v" else self.codes) for at in named(op)):
             return 47
-        if op[0] == "i" and (len(self.codes) == self.limits[1] or self.bytes + length_of(op[3]) > BYTES):
+        if op[0] == "i" and len(self.codes) == self.limits[1]:
+            return 48
+        if self.bytes + self.shown_by(op) > BYTES:
             return 48
         if op[0] in "mu" and len(self.marks) == self.limits[2]:
             return 49
         return None
 
+    def shown_by(self, op):
+        """The bytes of the character that an operation shows: of an insert's, or of one that only the removal hides which is taken back."""
+        if op[0] == "v":
+            character = self.removals[op[2]]
+            return length_of(self.codes[character]) if self.standing.get(character) == {op[2]} else 0
+        return length_of(op[3]) if op[0] == "i" else 0
+
+    def stand(self, removal):
+        """A removal hides its character."""
+        character = self.removals[removal]
+        self.standing.setdefault(character, set()).add(removal)
+        if character not in self.removed:
+            self.removed.add(character)
+            self.bytes -= length_of(self.codes[character])
+
+    def fall(self, removal):
+        """It hides it no more, and another one may."""
+        character = self.removals[removal]
+        self.standing[character].discard(removal)
+        if not self.standing[character]:
+            del self.standing[character]
+            self.removed.discard(character)
+            self.bytes += length_of(self.codes[character])
+
     def take(self, op):
         """Takes an operation in, and gives what takes it out again."""
         counter, node = op[1]
-        last, was_removed = self.counters.get(node), op[2] in self.removed if op[0] == "d" else None
+        last, was_back = self.counters.get(node), op[0] == "v" and op[2] in self.back
         self.counters[node] = counter
         if op[0] == "i":
             self.parents[op[1]], self.codes[op[1]] = op[2], op[3]
             self.bytes += length_of(op[3])
         elif op[0] == "d":
-            self.removed.add(op[2])
-            self.bytes -= 0 if was_removed else length_of(self.codes[op[2]])
+            self.removals[op[1]] = op[2]
+            self.stand(op[1])
+        elif op[0] == "v":
+            self.back.add(op[2])
+            self.fall(op[2]) if not was_back else None
         else:
             self.marks.append(op)
-        return op, last, was_removed
+        return op, last, was_back
 
-    def take_out(self, op, last, was_removed):
+    def take_out(self, op, last, was_back):
         node = op[1][1]
         if last is None:
             del self.counters[node]
@@ -263,9 +326,12 @@ class Text:
             del self.parents[op[1]], self.codes[op[1]]
             self.bytes -= length_of(op[3])
         elif op[0] == "d":
-            if not was_removed:
-                self.removed.discard(op[2])
-                self.bytes += length_of(self.codes[op[2]])
+            self.fall(op[1])
+            del self.removals[op[1]]
+        elif op[0] == "v":
+            if not was_back:
+                self.back.discard(op[2])
+                self.stand(op[2])
         else:
             self.marks.pop()
 
@@ -324,9 +390,13 @@ def format_text(found):
     return ",".join(parts) or "plain"
 
 
-def printed(text):
+def lines_of(spans):
     return [f"{index} {format_text(found)} " + span.replace("\\", "\\\\").replace("\n", "\\n")
-            for index, (span, found) in enumerate(text.spans())]
+            for index, (span, found) in enumerate(spans)]
+
+
+def printed(text):
+    return lines_of(text.spans())
 
 
 def spans_of(data, size="small"):
@@ -393,7 +463,7 @@ class Session:
         self.has_memory = memory is None or memory > LEFT_FOR_A_CHANGE[size]
         self.jump, self.limits, self.used = jump, limits or {}, {"changes": 0, "bytes": 0, "subscribers": 0}
         self.rest, self.text, self.versions, self.subscribers, self.out = data, Text(size), [[]], [], []
-        self.reads, self.spellings, self.lines_of_spans, self.places = reads, [], [[]], SUBSCRIBERS[size]
+        self.reads, self.spellings, self.places = reads, [], SUBSCRIBERS[size]
 
     def line(self):
         """The next line: None at the end, and else its bytes, and whether it has its line feed."""
@@ -442,7 +512,6 @@ class Session:
         self.used.update(used)
         self.versions.append(self.text.spans())
         self.spellings.append(gathered.splitlines())
-        self.lines_of_spans.append(printed(self.text))
         return [f"ok version {self.text.changes}"]
 
     def subscribe(self, capacity, program, first=None):
@@ -495,7 +564,7 @@ class Session:
     def show(self, number, first, count):
         if not 1 <= number_of(count) <= 1024 or number_of(number) < 0 or number_of(first) < 0:
             raise Refused(60)
-        spans = self.lines_of_spans[self.at_version(number)]
+        spans = lines_of(self.versions[self.at_version(number)])
         return ["span " + line for line in spans[int(first):int(first) + int(count)]] + [f"ok spans {len(spans)}"]
 
     def changes(self, first, count):
@@ -543,7 +612,7 @@ class Session:
         return re.search(rb" HTTP/1\.[01]\r?\Z", line) is not None or line[:2] == b"\x16\x03"
 
     def answer(self, line, ended):
-        if line.split(b" ")[0] in (b"change", b"change2"):
+        if line.split(b" ")[0] in (b"change", b"change2", b"change3"):
             if not ended:
                 raise Refused(41)
             return self.change(line)
@@ -713,8 +782,8 @@ def line_of(op):
     """The line of one operation."""
     if op[0] == "i":
         return f"i {name_of(op[1])} {name_of(op[2])} {op[3]:x}"
-    if op[0] == "d":
-        return f"d {name_of(op[1])} {name_of(op[2])}"
+    if op[0] in "dv":
+        return f"{op[0]} {name_of(op[1])} {name_of(op[2])}"
     key = op[2][0] + (f":{op[2][1]}" if op[2][1] else "")
     ends = [sign + (name_of(at) if at else "") for sign, at in op[4]]
     return " ".join([op[0], name_of(op[1]), key] + ([op[3]] if op[0] == "m" else []) + ends)
@@ -724,6 +793,8 @@ def line_of_all(ops):
     """The line of one operation, or of a run."""
     if len(ops) == 1:
         return line_of(ops[0])
+    if ops[0][0] in "dv":
+        return f"{line_of(ops[0])} {len(ops)}"
     codes = " ".join(f"{op[3]:x}" for op in ops)
     return f"r {name_of(ops[0][1])} {name_of(ops[0][2])} {len(ops)} {codes}"
 
@@ -799,7 +870,7 @@ class Writer:
 
 
 def change_lines(form, node, lines):
-    return [("change2" if form == 2 else "change") + f" {node} {len(lines)}"] + [line_of_all(ops) for ops in lines]
+    return [f"change{form if form > 1 else ''} {node} {len(lines)}"] + [line_of_all(ops) for ops in lines]
 
 
 def spelled_out(node, lines):

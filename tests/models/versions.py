@@ -183,7 +183,7 @@ class Draft:
 
     def add(self, ops):
         self.lines.append(ops)
-        self.count += len(ops)
+        self.count += text.count_of(ops)
         self.last = ops[-1][1][0]
 
     def insert(self, parent, codes):
@@ -191,7 +191,7 @@ class Draft:
         codes = codes[:self.room()]
         if not codes:
             return
-        if self.form == 2:
+        if self.form > 1:
             ops = text.run_of(self.next_id([parent]), parent, codes)
             self.add(ops)
             self.new += [op[1] for op in ops]
@@ -201,9 +201,17 @@ class Draft:
                 parent = self.lines[-1][0][1]
                 self.new.append(parent)
 
+    def name_all(self, kind, ids):
+        """A removal or a revival of each of these, in the third form as runs where they can be."""
+        parts = text.consecutive(ids) if self.form == 3 else [[own] for own in ids]
+        for part in parts[:self.room()]:
+            self.add(text.id_run_of(kind, self.next_id(part), part[0], len(part)))
+
     def remove(self, targets):
-        for target in targets[:self.room()]:
-            self.add([("d", self.next_id([target]), target)])
+        self.name_all("d", targets)
+
+    def revive(self, removals):
+        self.name_all("v", removals)
 
     def mark(self, kind, key, value, ends):
         if self.room():
@@ -221,8 +229,8 @@ class Size(NamedTuple):
     weights: dict
 
 
-SMALL = {"typed": 30, "remove": 26, "mark": 24, "unmark": 8, "equal": 4, "far": 8, "cursors": 3, "at_ends": 6, "clear": 1}
-LARGE = {"typed": 20, "remove": 14, "mark": 14, "unmark": 14, "equal": 14, "far": 14, "cursors": 6, "at_ends": 8, "clear": 0.4}
+SMALL = {"typed": 30, "remove": 26, "undo": 14, "mark": 24, "unmark": 8, "equal": 4, "far": 8, "cursors": 3, "at_ends": 6, "clear": 1}
+LARGE = {"typed": 20, "remove": 14, "undo": 9, "mark": 14, "unmark": 14, "equal": 14, "far": 14, "cursors": 6, "at_ends": 8, "clear": 0.4}
 
 
 def random_size(rng):
@@ -265,7 +273,7 @@ class Writer:
         rng, node = self.rng, self.rng.choice(self.nodes)
         self.look(node)
         floor = self.greatest[self.seen[node]] if rng.random() < 0.8 else 0
-        return Draft(rng, self.shown, rng.choice([1, 2, 2]), node, floor)
+        return Draft(rng, self.shown, rng.choice([1, 2, 2, 3, 3]), node, floor)
 
     def codes(self, lengths):
         return [self.rng.choice(CODES) for _ in range(self.rng.choice(lengths))]
@@ -305,6 +313,22 @@ class Writer:
             draft.remove(self.near(draft.new, [1, 2]))
         elif self.there:
             draft.remove(self.near(self.there, [1, 1, 1, 2, 4, 9]))
+
+    def undo(self, draft):
+        """Removals that are taken back, of this change too: some that came one after the other, some side by side, or all of a few hidden characters."""
+        rng, shown = self.rng, self.shown
+        removals = {own: at for own, at in shown.removals.items() if self.knows(draft.node, own)}
+        removals.update((op[1], op[2]) for line in draft.lines for op in line if op[0] == "d")
+        if not removals:
+            return self.typed(draft)
+        draft.form = 3
+        way, some = rng.randrange(4), self.near(list(removals), [1, 1, 2, 5, 20, 200])
+        if way == 0:
+            some = rng.sample(list(removals), min(len(removals), rng.choice([1, 2, 4])))
+        if way == 1:
+            characters = {removals[own] for own in some[:20]}
+            some = [own for own, at in removals.items() if at in characters]
+        draft.revive(sorted(some) if rng.random() < 0.8 else some)
 
     def around(self, first, last):
         """Anchors at both sides of visible characters, in one of the ways that cover these."""
@@ -356,7 +380,7 @@ class Writer:
         return self.around(some[0], some[-1])
 
     def key(self, draft):
-        name = self.rng.choice(KEYS if draft.form == 2 else [key for key in KEYS if key != "code"])
+        name = self.rng.choice(KEYS if draft.form > 1 else [key for key in KEYS if key != "code"])
         return name, self.rng.choice(COMMENTS) if name == "comment" else None
 
     def value(self, key):
@@ -371,7 +395,7 @@ class Writer:
         for _ in range(min(4, len(self.shown.marks))):
             _, _, key, _, ends = self.rng.choice(self.shown.marks[-400:])
             known = all(own is None or self.knows(draft.node, own) for _, own in ends)
-            if known and (key[0] != "code" or draft.form == 2):
+            if known and (key[0] != "code" or draft.form > 1):
                 draft.mark(self.rng.choice("uuum"), key, self.value(key), ends)
                 return
         self.mark(draft)
@@ -392,7 +416,7 @@ class Writer:
             return self.mark(draft)
         own, other, ends = dict(own), dict(other), self.around(ids[0], ids[-1])
         if any(key[0] == "code" for key in own.keys() ^ other.keys()):
-            draft.form = 2
+            draft.form = max(2, draft.form)
         for key in sorted(own.keys() | other.keys(), key=place_of_key):
             if own.get(key) != other.get(key):
                 draft.mark("m" if key in other else "u", key, other.get(key), ends)
@@ -448,7 +472,7 @@ class Writer:
         rng = self.rng
         if len(self.there) <= 200 and rng.random() < 0.6:
             return draft.remove(self.there)
-        draft.form = 2
+        draft.form = max(2, draft.form)
         keys = sorted({op[2] for op in self.shown.marks}, key=place_of_key)
         middle = ("<", rng.choice(self.there)) if self.there else START
         ends = rng.choice([(START, END), (START, END), (START, middle), (middle, END)])
@@ -457,7 +481,7 @@ class Writer:
 
     def paint(self, draft):
         """A mark over each other character, so that a text of many spans comes of it."""
-        draft.form = 2
+        draft.form = max(2, draft.form)
         places = list(range(0, len(self.there) - 1, 2))
         for at in self.rng.sample(places, min(len(places), self.size.marks, draft.room())):
             key = self.key(draft)
@@ -494,7 +518,7 @@ class Writer:
         self.shown.accept(draft.lines)
         for ops in draft.lines:
             for op in ops:
-                if op[0] == "i":
+                if op[0] in "id":
                     self.arrived[op[1]] = self.shown.changes
         self.greatest.append(max(self.greatest[-1], draft.last))
         self.picture = self.shown.picture()

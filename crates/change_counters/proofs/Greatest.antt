@@ -1,10 +1,11 @@
--- The greatest counter of two lists of operations, and of a run's.
-use Rattle.std.proofs.Common.{◌≡◌, ℕ, ◌+◌, ◌-◌, ◌<◌, ◌≤◌, max, List, [], ◌∷◌, ◌++◌, Option, Some, refl, sym, ap, ◌∙◌, arith, length, get_or, drop, add-one, drop-cons}
+-- The greatest counter of two lists of operations, and of those of runs.
+use Rattle.std.proofs.Common.{◌≡◌, ℕ, zero, suc, ◌+◌, ◌-◌, ◌<◌, ◌≤◌, max, List, [], ◌∷◌, ◌++◌, Option, Some, refl, sym, ap, ◌∙◌, arith, length, get_or, drop, add-one, drop-cons}
 use Rattle.std.proofs.lemmas.List.{drop_all}
 use Rattle.std.specs.Ordering.{nat_cmp, ord_max}
 use Rattle.change_ops.specs.Ids.{OpId}
 use Rattle.change_ops.specs.Lines.{ops_of, ops_of_lines}
 use Rattle.change_ops.specs.Operations.{id_of}
+use Rattle.change_ops.specs.IdRuns.{removals_from, revivals_from}
 use Rattle.change_ops.specs.Runs.{inserts_from, next_id}
 use Rattle.change_ops.specs.declared.line.Line.{Line}
 use Rattle.change_ops.specs.declared.operation.Op.{Op}
@@ -39,6 +40,25 @@ pub greatest_of_run : (characters : List ℕ) (id : OpId) (parent : Option OpId)
     → counter ≡ greatest_counter (inserts_from id parent characters)
 greatest_of_run [] id parent counter some is = absurd (omega (arith, some))
 greatest_of_run (c ∷ characters) id parent counter some is = omega (arith, is, run_from characters c id parent)
+
+removals_last : (count : ℕ) (id target : OpId) → greatest_counter (removals_from id target (suc count)) ≡ id.counter + count
+unfolding greatest_counter removals_from
+removals_last zero id target = omega arith
+removals_last (suc count) id target = omega (arith, removals_last count (next_id id) (next_id target))
+
+revivals_last : (count : ℕ) (id removal : OpId) → greatest_counter (revivals_from id removal (suc count)) ≡ id.counter + count
+unfolding greatest_counter revivals_from
+revivals_last zero id removal = omega arith
+revivals_last (suc count) id removal = omega (arith, revivals_last count (next_id id) (next_id removal))
+
+-- of a run of removals, or of revivals, it is that of the last one
+pub greatest_of_removals : (count : ℕ) (id target : OpId) (counter : ℕ) → 1 ≤ count → counter ≡ id.counter + (count - 1) → counter ≡ greatest_counter (removals_from id target count)
+greatest_of_removals zero id target counter some is = absurd (omega (arith, some))
+greatest_of_removals (suc count) id target counter some is = omega (arith, is, removals_last count id target)
+
+pub greatest_of_revivals : (count : ℕ) (id removal : OpId) (counter : ℕ) → 1 ≤ count → counter ≡ id.counter + (count - 1) → counter ≡ greatest_counter (revivals_from id removal count)
+greatest_of_revivals zero id removal counter some is = absurd (omega (arith, some))
+greatest_of_revivals (suc count) id removal counter some is = omega (arith, is, revivals_last count id removal)
 
 -- the greatest so far, with the lines that are left
 pub greatest_more : (lines : List Line) (line : Line) (i greatest own next total : ℕ) → i < length lines → line ≡ get_or lines i line → own ≡ greatest_counter (ops_of line)

@@ -1,13 +1,22 @@
 //! The counters of a change's operations: the greatest, and where a change goes above a number.
 #![tactic(auto)]
 
-ghost use Rattle.std.specs.Prelude.{◌≡◌, ◌+◌, ◌<◌, IfSome, length, max, position};
+ghost use Rattle.std.specs.Prelude.{◌≡◌, ◌+◌, ◌-◌, ◌<◌, ◌≤◌, IfSome, length, max, position};
 ghost use Rattle.change_ops.specs.Changes.{operations};
 ghost use Rattle.change_ops.specs.Lines.{ops_of, ops_of_lines};
 ghost use Rattle.change_counters.specs.Counters.{greatest_counter, goes_above, line_above};
 
 use change_ops::change::Change;
+use change_ops::id_run::IdRun;
 use change_ops::line::Line;
+
+/// The counter of the last operation of a run of removals or of revivals.
+fn last_counter(run: IdRun) -> u64
+    ensures value { result ≡ run.id.counter + (run.count - 1) }
+    ensures some { 1 ≤ run.count }
+{
+    run.id().counter() + (run.count() as u64 - 1)
+}
 
 /// The greatest counter of the operations that a line means, which is that of the last one.
 fn greatest_of_line(line: &Line) -> u64
@@ -16,6 +25,8 @@ fn greatest_of_line(line: &Line) -> u64
     match line {
         Line::Operation(op) => op.id().counter(),
         Line::Run(run) => run.id().counter() + (run.characters().len() as u64 - 1),
+        Line::Removals(run) => last_counter(*run),
+        Line::Revivals(run) => last_counter(*run),
     }
 }
 

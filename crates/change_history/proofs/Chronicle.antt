@@ -120,11 +120,14 @@ module _ (size : Size) where
   run_refused ops added from index count node parts tally apply.OutOfMemory below h = tt
 
 -- ---- the operations of a change are applied
-pub applied_one : {E : Type 0} (ops added : List Op) (from : ℕ) (old new : Parts) (op : Op) (r : Result (Unit {0}) E) → IsApplied ops added from old → slice_get added from ≡ Some op → IfOk r (λ _. Keeps ((ops ++ take from added) ++ op ∷ []) new) → IfOk r (λ _. IsApplied ops added (from + 1) new)
-applied_one ops added from old new op (Ok done) a here kept = record {
+pub applied_next : (ops added : List Op) (from : ℕ) (old new : Parts) (op : Op) → IsApplied ops added from old → slice_get added from ≡ Some op → Keeps ((ops ++ take from added) ++ op ∷ []) new → IsApplied ops added (from + 1) new
+applied_next ops added from old new op a here kept = record {
   follow = a.follow;
   kept = subst (λ (xs : List Op). Keeps xs new) (append_assoc ops (take from added) (op ∷ []) ∙ ap (λ (ts : List Op). ops ++ ts) (sym (take_push added from op here))) kept;
 }
+
+pub applied_one : {E : Type 0} (ops added : List Op) (from : ℕ) (old new : Parts) (op : Op) (r : Result (Unit {0}) E) → IsApplied ops added from old → slice_get added from ≡ Some op → IfOk r (λ _. Keeps ((ops ++ take from added) ++ op ∷ []) new) → IfOk r (λ _. IsApplied ops added (from + 1) new)
+applied_one ops added from old new op (Ok done) a here kept = applied_next ops added from old new op a here kept
 applied_one ops added from old new op (Err e) a here kept = tt
 
 pub follows_at : (ops added : List Op) (from : ℕ) (old : Parts) (op : Op) → IsApplied ops added from old → slice_get added from ≡ Some op → MayFollow Large (ops ++ take from added) op

@@ -1,5 +1,5 @@
 -- What is counted of the operations before a peer's next one, one operation more at a time.
-use Rattle.std.proofs.Common.{◌≡◌, ℕ, ◌+◌, ◌<◌, ◌≤◌, ◌↔◌, List, [], ◌∷◌, ◌++◌, Bool, not, true, false, cond, nat_eq, nat_le, ◌&&◌, Option, Some, None, MatchOption, IsTrue, refl, sym, ap, ◌∙◌, subst, inl, inr, ◌⊎◌, ⊎_elim, arith, length, get_or, append_assoc, add-zero, unwrap_or}
+use Rattle.std.proofs.Common.{◌≡◌, ℕ, zero, suc, ◌+◌, ◌<◌, ◌≤◌, ◌↔◌, List, [], ◌∷◌, ◌++◌, Bool, not, true, false, cond, nat_eq, nat_le, ◌&&◌, Option, Some, None, MatchOption, IsTrue, refl, sym, ap, ◌∙◌, subst, inl, inr, ◌⊎◌, ⊎_elim, arith, length, get_or, append_assoc, add-zero, unwrap_or}
 use Rattle.std.specs.List.{count_by, Contains, AllByRecursion}
 use Rattle.std.specs.List.Sorted.{IsStrictlyIncreasing}
 use Rattle.std.proofs.lemmas.Bool.{cases_lt, eqb-true, false≢true}
@@ -12,17 +12,18 @@ use Rattle.change_ops.specs.Ids.{OpId}
 use Rattle.change_ops.specs.Changes.{IsLine}
 use Rattle.change_ops.specs.Lines.{ops_of, ops_of_lines, first_id}
 use Rattle.change_ops.specs.Runs.{inserts_from, next_id}
-use Rattle.change_ops.specs.Operations.{id_of, is_insert, is_mark}
+use Rattle.change_ops.specs.IdRuns.{removals_from, revivals_from}
+use Rattle.change_ops.specs.Operations.{id_of, is_insert, is_mark, Names, NamesRemoval}
 use Rattle.change_ops.specs.declared.line.Form.{Form}
 use Rattle.change_ops.specs.declared.line.Line.{Line}
-use Rattle.change_ops.specs.declared.line.Line.TheVariants.{Operation, Run}
+use Rattle.change_ops.specs.declared.line.Line.TheVariants.{Operation, Run, Removals, Revivals}
 use Rattle.change_ops.specs.declared.size.Size.{Size}
 use Rattle.change_ops.specs.declared.operation.Op.{Op}
-use Rattle.change_ops.specs.declared.operation.Op.TheVariants.{Insert}
+use Rattle.change_ops.specs.declared.operation.Op.TheVariants.{Insert, Remove, AddMark, RemoveMark, Revive}
 use Rattle.change_ops.specs.Sizes.{most_characters}
-use Rattle.char_sequence.specs.Acceptance.{Used, IsStale, IsFull, HasNoRoom}
+use Rattle.char_sequence.specs.Acceptance.{Used, NamesId, IsStale, IsUnknown, IsFull, HasNoRoom}
 use Rattle.char_sequence.specs.Newest.{IsLast}
-use Rattle.char_sequence.specs.Tree.{Present}
+use Rattle.char_sequence.specs.Tree.{Present, IsRemoval}
 use Rattle.char_sequence.proofs.Holding.{count_push}
 use Rattle.mark_anchors.proofs.Lists.{contains_from}
 use Rattle.change_history.specs.Accepted.{MayFollow}
@@ -47,6 +48,59 @@ pub present_either : (ops own : List Op) (x : OpId) (r : Bool) → (Present own 
 present_either ops own x r not there = (
   λ t. present_left ops own x (there.0 t),
   λ p. ⊎_elim (λ (a : Present ops x). there.1 a) (λ (b : Present own x). absurd (not b)) (present_cases ops own x p),
+)
+
+-- ---- the removals of two lists of operations
+pub removal_left : (ops own : List Op) (r : OpId) → IsRemoval ops r → IsRemoval (ops ++ own) r
+removal_left ops own r p = (p.0, Contains-append_left ops own (Remove r p.0) p.1)
+
+pub removal_right : (ops own : List Op) (r : OpId) → IsRemoval own r → IsRemoval (ops ++ own) r
+removal_right ops own r p = (p.0, Contains-append_right ops own (Remove r p.0) p.1)
+
+pub removal_cases : (ops own : List Op) (r : OpId) → IsRemoval (ops ++ own) r → IsRemoval ops r ⊎ IsRemoval own r
+removal_cases ops own r p =
+    ⊎_elim
+    (λ (a : Contains ops (Remove r p.0)). inl (p.0, a))
+    (λ (b : Contains own (Remove r p.0)). inr (p.0, b))
+    (Contains-append_cases ops own (Remove r p.0) p.1)
+
+pub removal_either : (ops own : List Op) (r : OpId) (b : Bool) → (IsRemoval own r → ⊥) → IsTrue b ↔ IsRemoval ops r → IsTrue b ↔ IsRemoval (ops ++ own) r
+removal_either ops own r b not there = (
+  λ t. removal_left ops own r (there.0 t),
+  λ p. ⊎_elim (λ (a : IsRemoval ops r). there.1 a) (λ (c : IsRemoval own r). absurd (not c)) (removal_cases ops own r p),
+)
+
+abbrev pub removes : Op → Bool
+removes (Insert id p c) = false
+removes (Remove id target) = true
+removes (AddMark id attribute start end) = false
+removes (RemoveMark id key start end) = false
+removes (Revive id removal) = false
+
+-- an operation that is no removal leaves them
+pub removed_same : (own : List Op) (op : Op) (old new : List OpId) → removes op ≡ false → new ≡ old → ((r : OpId) → IsRemoval own r ↔ Contains old r) → (r : OpId) → IsRemoval (own ++ op ∷ []) r ↔ Contains new r
+removed_same own op old new other same was r = subst (λ (xs : List OpId). IsRemoval (own ++ op ∷ []) r ↔ Contains xs r) (sym same) (
+  λ there.
+      ⊎_elim
+      (λ (before : Contains own (Remove r there.0)). (was r).0 (there.0, before))
+      (λ (now : op ≡ Remove r there.0). absurd (false≢true (sym other ∙ ap removes now)))
+      (Contains-push_cases own op (Remove r there.0) there.1),
+  λ h. removal_left own (op ∷ []) r ((was r).1 h),
+)
+
+-- a removal more
+pub removed_more : (own : List Op) (op : Op) (id target : OpId) (old new : List OpId) → op ≡ Remove id target → ((r : OpId) → Contains new r ↔ (Contains old r ⊎ (r ≡ id))) → ((r : OpId) → IsRemoval own r ↔ Contains old r) → (r : OpId) → IsRemoval (own ++ op ∷ []) r ↔ Contains new r
+removed_more own op id target old new is more was r = (
+  λ there.
+      ⊎_elim
+      (λ (before : Contains own (Remove r there.0)). (more r).1 (inl ((was r).0 (there.0, before))))
+      (λ (now : op ≡ Remove r there.0). (more r).1 (inr (sym (ap id_of (sym is ∙ now)))))
+      (Contains-push_cases own op (Remove r there.0) there.1),
+  λ h.
+      ⊎_elim
+      (λ (before : Contains old r). removal_left own (op ∷ []) r ((was r).1 before))
+      (λ (now : r ≡ id). (target, subst (λ (o : Op). Contains (own ++ op ∷ []) o) (is ∙ ap (λ i. Remove i target) (sym now)) (Contains-push own op)))
+      ((more r).0 h),
 )
 
 -- ---- the peer's last counter
@@ -132,8 +186,9 @@ module _ {size : Size} (ops own : List Op) (op : Op) (node : ℕ) (old new : Tal
       (λ (ge : (id_of op).counter ≤ x). absurd (m.accepted.fresh (inl (Insert id there.0 there.1.0, Contains-append_right ops own (Insert id there.0 there.1.0) there.1.1, sym of, ge))))
       (cases_lt x (id_of op).counter)
 
-  pub noted_insert : (p : Option OpId) (c : ℕ) → op ≡ Insert (id_of op) p c → is_insert op ≡ true → is_mark op ≡ false → new.inserted.items ≡ old.inserted.items ++ (id_of op).counter ∷ [] → new.characters ≡ old.characters + 1 → new.marks ≡ old.marks → IsTally ops (own ++ op ∷ []) node new
-  noted_insert p c is insert mark grown characters marks = record {
+  pub noted_insert : (p : Option OpId) (c : ℕ) → op ≡ Insert (id_of op) p c → is_insert op ≡ true → is_mark op ≡ false → new.inserted.items ≡ old.inserted.items ++ (id_of op).counter ∷ [] → new.characters ≡ old.characters + 1 → new.marks ≡ old.marks → ((r : OpId) → IsRemoval (own ++ op ∷ []) r ↔ Contains new.removed r) → IsTally ops (own ++ op ∷ []) node new
+  noted_insert p c is insert mark grown characters marks removed = record {
+    removed = removed;
     of = named ∙ t.of;
     alone = alone;
     used = used;
@@ -161,8 +216,9 @@ module _ {size : Size} (ops own : List Op) (op : Op) (node : ℕ) (old new : Tal
     );
   }
 
-  noted_other : is_insert op ≡ false → new.inserted.items ≡ old.inserted.items → new.characters ≡ old.characters → new.marks ≡ count_by is_mark (ops ++ (own ++ op ∷ [])) → IsTally ops (own ++ op ∷ []) node new
-  noted_other other same characters marks = record {
+  noted_other : is_insert op ≡ false → new.inserted.items ≡ old.inserted.items → new.characters ≡ old.characters → new.marks ≡ count_by is_mark (ops ++ (own ++ op ∷ [])) → ((r : OpId) → IsRemoval (own ++ op ∷ []) r ↔ Contains new.removed r) → IsTally ops (own ++ op ∷ []) node new
+  noted_other other same characters marks removed = record {
+    removed = removed;
     of = named ∙ t.of;
     alone = alone;
     used = used;
@@ -179,11 +235,11 @@ module _ {size : Size} (ops own : List Op) (op : Op) (node : ℕ) (old new : Tal
     );
   }
 
-  pub noted_mark : is_insert op ≡ false → is_mark op ≡ true → new.inserted.items ≡ old.inserted.items → new.characters ≡ old.characters → new.marks ≡ old.marks + 1 → IsTally ops (own ++ op ∷ []) node new
-  noted_mark other mark same characters marks = noted_other other same characters (marks ∙ counted_yes is_mark old.marks mark t.marks)
+  pub noted_mark : is_insert op ≡ false → is_mark op ≡ true → new.inserted.items ≡ old.inserted.items → new.characters ≡ old.characters → new.marks ≡ old.marks + 1 → ((r : OpId) → IsRemoval (own ++ op ∷ []) r ↔ Contains new.removed r) → IsTally ops (own ++ op ∷ []) node new
+  noted_mark other mark same characters marks removed = noted_other other same characters (marks ∙ counted_yes is_mark old.marks mark t.marks) removed
 
-  pub noted_removal : is_insert op ≡ false → is_mark op ≡ false → new.inserted.items ≡ old.inserted.items → new.characters ≡ old.characters → new.marks ≡ old.marks → IsTally ops (own ++ op ∷ []) node new
-  noted_removal other mark same characters marks = noted_other other same characters (marks ∙ counted_no is_mark old.marks mark t.marks)
+  pub noted_edit : is_insert op ≡ false → is_mark op ≡ false → new.inserted.items ≡ old.inserted.items → new.characters ≡ old.characters → new.marks ≡ old.marks → ((r : OpId) → IsRemoval (own ++ op ∷ []) r ↔ Contains new.removed r) → IsTally ops (own ++ op ∷ []) node new
+  noted_edit other mark same characters marks removed = noted_other other same characters (marks ∙ counted_no is_mark old.marks mark t.marks) removed
 
 -- ---- what a check tells
 pub not_false : (b : Bool) → not b ≡ false → b ≡ true
@@ -194,6 +250,19 @@ pub stale_used : (ops own : List Op) (op : Op) (node : ℕ) (tally : Tally) (id 
 stale_used ops own op node tally id n t of is counter some le =
     let same = ap (λ (i : OpId). i.counter) is in
     inl ((t.used (id_of op) (omega arith) of).0 (omega arith))
+
+pub not_stale : (ops own : List Op) (op : Op) (node : ℕ) (tally : Tally) (id : OpId) (n : ℕ) → IsTally ops own node tally → (id_of op).node ≡ node → id ≡ id_of op → n ≡ id.counter → 1 ≤ id.counter → tally.last < n → ((x : OpId) → NamesId op x → x.counter < (id_of op).counter) → IsStale (ops ++ own) op → ⊥
+not_stale ops own op node tally id n t of is counter some later above stale =
+    let same = ap (λ (i : OpId). i.counter) is in
+    ⊎_elim
+    (λ (used : Used (ops ++ own) (id_of op)).
+    let le : (id_of op).counter ≤ tally.last = (t.used (id_of op) (omega (arith, some, same)) of).1 used in
+    absurd (omega (arith, le, same, counter, later)))
+    (λ (named : (x : OpId) × NamesId op x × ((id_of op).counter ≤ x.counter)).
+    let less = above named.0 named.1 in
+    let le = named.2 in
+    absurd (omega (arith, less, le)))
+    stale
 
 pub at_limit : (p : Op → Bool) (ops : List Op) (op : Op) (n limit : ℕ) → n ≡ count_by p ops → (p op && nat_le limit n) ≡ true → (p op ≡ true) × (limit ≤ count_by p ops)
 at_limit p ops op n limit is h =
@@ -206,18 +275,32 @@ below_limit p ops op n limit is h full =
     let many : limit ≤ n = subst (λ (k : ℕ). limit ≤ k) (sym is) full.1 in
     grind (arith, nat_tests)
 
--- an insert that is not one too many, and that the text has room for
+-- an operation that inserts no character too many, and that the text has room for
 pub not_full : (size : Size) (ops : List Op) (op : Op) (n : ℕ) → n ≡ count_by is_insert ops → (is_insert op && nat_le (most_characters size) n) ≡ false → IsShort size ops op → IsFull size ops op → ⊥
 not_full size ops op n is h short full =
-    let many : most_characters size ≤ count_by is_insert ops → ⊥ = λ le. below_limit is_insert ops op n (most_characters size) is h (full.0, le) in
+    let many : (is_insert op ≡ true) × (most_characters size ≤ count_by is_insert ops) → ⊥ = below_limit is_insert ops op n (most_characters size) is h in
     ⊎_elim many
     (λ (none : HasNoRoom ops op).
-    ⊎_elim (λ (low : count_by is_insert ops < most_characters size). short low none) many (cases_lt (count_by is_insert ops) (most_characters size)))
-    full.1
+    short
+    (λ insert.
+    ⊎_elim
+    (λ (low : count_by is_insert ops < most_characters size). low)
+    (λ (high : most_characters size ≤ count_by is_insert ops). absurd (many (insert, high)))
+    (cases_lt (count_by is_insert ops) (most_characters size)))
+    none)
+    full
+
+-- an operation that names neither an unknown character nor an unknown removal
+pub not_unknown : (ops : List Op) (op : Op) → ((x : OpId) → Names op x → Present ops x) → ((r : OpId) → NamesRemoval op r → IsRemoval ops r) → IsUnknown ops op → ⊥
+not_unknown ops op characters removal unknown =
+    ⊎_elim
+    (λ (u : (x : OpId) × Names op x × (Present ops x → ⊥)). u.2 (characters u.0 u.1))
+    (λ (u : (r : OpId) × NamesRemoval op r × (IsRemoval ops r → ⊥)). u.2 (removal u.0 u.1))
+    unknown
 
 -- ---- what a tally tells
-pub tally_begun : (ops : List Op) (node : ℕ) (last : Option ℕ) (tally : Tally) → MatchOption last ((o : Op) → Contains ops o → (id_of o).node ≡ node → ⊥) (IsLast ops node) → tally.node ≡ node → tally.last ≡ unwrap_or last 0 → tally.characters ≡ count_by is_insert ops → tally.marks ≡ count_by is_mark ops → tally.inserted.items ≡ [] → IsTally ops [] node tally
-tally_begun ops node last tally told of is characters marks none = record {
+pub tally_begun : (ops : List Op) (node : ℕ) (last : Option ℕ) (tally : Tally) → MatchOption last ((o : Op) → Contains ops o → (id_of o).node ≡ node → ⊥) (IsLast ops node) → tally.node ≡ node → tally.last ≡ unwrap_or last 0 → tally.characters ≡ count_by is_insert ops → tally.marks ≡ count_by is_mark ops → tally.inserted.items ≡ [] → tally.removed ≡ [] → IsTally ops [] node tally
+tally_begun ops node last tally told of is characters marks none no_removal = record {
   of = of;
   alone = λ o h. absurd (let less : h.0 < 0 = h.1 in omega arith);
   used = λ id some same. subst (λ (n : ℕ). (id.counter ≤ n) ↔ Used (ops ++ []) id) (sym is) (last_counter ops node last told id some same);
@@ -227,6 +310,10 @@ tally_begun ops node last tally told of is characters marks none = record {
   inserted = λ x. subst (λ (xs : List ℕ). Present [] x ↔ (x.node ≡ node) × Contains xs x.counter) (sym none) (
     λ there. absurd (let less : there.1.1.0 < 0 = there.1.1.1 in omega arith),
     λ h. absurd (let less : h.1.0 < 0 = h.1.1 in omega arith),
+  );
+  removed = λ r. subst (λ (xs : List OpId). IsRemoval [] r ↔ Contains xs r) (sym no_removal) (
+    λ there. absurd (let less : there.1.0 < 0 = there.1.1 in omega arith),
+    λ h. absurd (let less : h.0 < 0 = h.1 in omega arith),
   );
 }
 
@@ -254,9 +341,29 @@ own_run (c ∷ cs) id parent o h =
     (λ (rest : Contains (inserts_from (next_id id) (Some id) cs) o). own_run cs (next_id id) (Some id) o rest)
     (Contains-append_cases (Insert id parent c ∷ []) (inserts_from (next_id id) (Some id) cs) o h)
 
+own_removals : (count : ℕ) (id target : OpId) (o : Op) → Contains (removals_from id target count) o → (id_of o).node ≡ id.node
+unfolding removals_from
+own_removals zero id target o h = absurd (let less : h.0 < 0 = h.1 in omega arith)
+own_removals (suc count) id target o h =
+    ⊎_elim
+    (λ (first : Contains (Remove id target ∷ []) o). ap (λ (p : Op). (id_of p).node) (sym (one_held (Remove id target) o first)))
+    (λ (rest : Contains (removals_from (next_id id) (next_id target) count) o). own_removals count (next_id id) (next_id target) o rest)
+    (Contains-append_cases (Remove id target ∷ []) (removals_from (next_id id) (next_id target) count) o h)
+
+own_revivals : (count : ℕ) (id removal : OpId) (o : Op) → Contains (revivals_from id removal count) o → (id_of o).node ≡ id.node
+unfolding revivals_from
+own_revivals zero id removal o h = absurd (let less : h.0 < 0 = h.1 in omega arith)
+own_revivals (suc count) id removal o h =
+    ⊎_elim
+    (λ (first : Contains (Revive id removal ∷ []) o). ap (λ (p : Op). (id_of p).node) (sym (one_held (Revive id removal) o first)))
+    (λ (rest : Contains (revivals_from (next_id id) (next_id removal) count) o). own_revivals count (next_id id) (next_id removal) o rest)
+    (Contains-append_cases (Revive id removal ∷ []) (revivals_from (next_id id) (next_id removal) count) o h)
+
 own_line : (line : Line) (o : Op) → Contains (ops_of line) o → (id_of o).node ≡ (first_id line).node
 own_line (Operation op) o h = ap (λ (p : Op). (id_of p).node) (sym (one_held op o h))
 own_line (Run run) o h = own_run run.characters run.id run.parent o h
+own_line (Removals run) o h = own_removals run.count run.id run.first o h
+own_line (Revivals run) o h = own_revivals run.count run.id run.first o h
 
 pub own_lines : (form : Form) (node : ℕ) (lines : List Line) → AllByRecursion (IsLine form node) lines → AreOf node (ops_of_lines lines)
 unfolding ops_of_lines

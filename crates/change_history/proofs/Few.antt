@@ -68,7 +68,7 @@ module _ {size : Size} where
       let ops = operations_of (take n changes) ++ take i (operations change) in
       ⊎_elim
       (λ (low : count_by is_insert ops < most_characters size). low)
-      (λ (many : most_characters size ≤ count_by is_insert ops). absurd (m.accepted.room (insert, inl many)))
+      (λ (many : most_characters size ≤ count_by is_insert ops). absurd (m.accepted.room (inl (insert, many))))
       (cases_lt (count_by is_insert ops) (most_characters size)))
       (length changes) (omega arith))
 

@@ -14,6 +14,7 @@ use Rattle.change_history.specs.Next.{AreNextParts}
 use Rattle.change_history.specs.declared.history.Draft.{Draft}
 use Rattle.change_history.specs.declared.parts.Parts.{Parts}
 use Rattle.change_history.proofs.Chronicle.{operations_of-push}
+use Rattle.change_history.proofs.Edits.{removals_by_edits}
 use Rattle.change_history.proofs.Keeping.{are_marks}
 use Rattle.change_history.proofs.Sizes.{follow_large}
 use Rattle.change_ops.specs.declared.size.Size.{Size}
@@ -23,17 +24,18 @@ accepts_all : (ops added : List Op) → AllFollow Large ops added (length added)
 accepts_all ops added follow i op here = (follow i op (slice_get_within added i op here) here).accepted
 
 pub is_step : (ops : List Op) (previous : Version) (lines : List Line) (before parts : Parts) → AreNextParts ops previous lines before parts
-    → IsStep ops previous before.sequence.elements parts.sequence.elements parts.marks lines
+    → IsStep ops previous before.sequence.elements parts.sequence parts.marks lines
 is_step ops previous lines before parts next = record {
   shows_before = next.kept_before.shows;
   version = next.version;
   accepted = accepts_all ops (ops_of_lines lines) next.accepted;
   shows = next.kept.shows;
+  removals = removals_by_edits (ops ++ ops_of_lines lines) parts.sequence.removals next.kept.held.removals;
   marks = are_marks (ops ++ ops_of_lines lines) parts.marks next.kept.marks;
 }
 
 pub next_kept : {N E : Type 0} (version_of : N → Version) (r : Result N E) (previous : Version) (lines : List Line) (before parts : Parts) (number : ℕ)
-    → IfOk r (λ n. (ops : List Op) → IsStep ops previous before.sequence.elements parts.sequence.elements parts.marks lines → IsVersion (ops ++ ops_of_lines lines) number (version_of n))
+    → IfOk r (λ n. (ops : List Op) → IsStep ops previous before.sequence.elements parts.sequence parts.marks lines → IsVersion (ops ++ ops_of_lines lines) number (version_of n))
     → IfOk r (λ n. (ops : List Op) → AreNextParts ops previous lines before parts → IsVersion (ops ++ ops_of_lines lines) number (version_of n))
 next_kept version_of (Ok n) previous lines before parts number h = λ ops next. h ops (is_step ops previous lines before parts next)
 next_kept version_of (Err e) previous lines before parts number h = tt

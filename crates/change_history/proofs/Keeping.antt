@@ -6,7 +6,7 @@ use Rattle.std.proofs.lemmas.List.Elements.{filter-append}
 use Rattle.std.proofs.lemmas.List.Sums.{length-filter}
 use Rattle.change_ops.specs.declared.id.OpId.{OpId}
 use Rattle.change_ops.specs.declared.operation.Op.{Op}
-use Rattle.change_ops.specs.declared.operation.Op.TheVariants.{Insert, Remove}
+use Rattle.change_ops.specs.declared.operation.Op.TheVariants.{Insert, Remove, Revive}
 use Rattle.change_ops.specs.Operations.{id_of, is_edit, is_mark}
 use Rattle.char_sequence.specs.Acceptance.{Used, Accepts}
 use Rattle.char_sequence.specs.Newest.{IsNewest}
@@ -16,7 +16,7 @@ use Rattle.char_sequence.specs.Order.{Shows, IsAt}
 use Rattle.char_sequence.specs.Held.{Holds}
 use Rattle.mark_anchors.specs.Marks.{AreMarks}
 use Rattle.mark_places.specs.Places.{AreMarkPlaces}
-use Rattle.version_laws.proofs.Put.{removal_hides}
+use Rattle.version_laws.proofs.Put.{DiffersInOne, removal_hides, revival_shows}
 use Rattle.change_history.specs.declared.parts.Parts.{Parts}
 use Rattle.change_history.specs.Accepted.{IsMarkTooMany}
 use Rattle.change_history.specs.Kept.{Keeps}
@@ -43,13 +43,24 @@ keeps_edit ops op old new edit fails k marks newest shows held places = record {
   newest = newest;
 }
 
+-- an operation that changes one element where it stands
+keeps_moved : {A E : Type 0} (r : Result A E) (ops : List Op) (op : Op) (old new : Parts) → is_edit op ≡ true → is_mark op ≡ false → Keeps ops old → new.marks ≡ old.marks → new.places ≡ old.places → IsNewest (ops ++ op ∷ []) new.newest → (Shows new.sequence.elements (ops ++ op ∷ []) → DiffersInOne old.sequence.elements new.sequence.elements) → IfOk r (λ _. Shows new.sequence.elements (ops ++ op ∷ [])) → IfOk r (λ _. Holds new.sequence (filter is_edit ops ++ op ∷ [])) → IfOk r (λ _. Keeps (ops ++ op ∷ []) new)
+keeps_moved (Ok a) ops op old new edit mark k marks same newest differs shows held =
+    keeps_edit ops op old new edit mark k marks newest shows held
+    (subst (λ ps. AreMarkPlaces new.sequence.elements old.marks ps) (sym same)
+    (places_hidden old.sequence.elements new.sequence.elements old.marks old.places (differs shows) k.places))
+keeps_moved (Err e) ops op old new edit mark k marks same newest differs shows held = tt
+
 module _ {size : Size} where
   pub keeps_removal : {A E : Type 0} (r : Result A E) (ops : List Op) (op : Op) (id target : OpId) (old new : Parts) → op ≡ Remove id target → Keeps ops old → Accepts size ops op → new.marks ≡ old.marks → new.places ≡ old.places → IsNewest (ops ++ op ∷ []) new.newest → IfOk r (λ _. Shows new.sequence.elements (ops ++ op ∷ [])) → IfOk r (λ _. Holds new.sequence (filter is_edit ops ++ op ∷ [])) → IfOk r (λ _. Keeps (ops ++ op ∷ []) new)
-  keeps_removal (Ok a) ops op id target old new is k accepted marks same newest shows held =
-      keeps_edit ops op old new (ap is_edit is) (ap is_mark is) k marks newest shows held
-      (subst (λ ps. AreMarkPlaces new.sequence.elements old.marks ps) (sym same)
-      (places_hidden old.sequence.elements new.sequence.elements old.marks old.places (removal_hides ops old.sequence.elements new.sequence.elements op id target is k.shows accepted shows) k.places))
-  keeps_removal (Err e) ops op id target old new is k accepted marks same newest shows held = tt
+  keeps_removal r ops op id target old new is k accepted marks same newest shows held =
+      keeps_moved r ops op old new (ap is_edit is) (ap is_mark is) k marks same newest
+      (λ shown. removal_hides ops old.sequence.elements new.sequence.elements op id target is k.shows accepted shown) shows held
+
+  pub keeps_revival : {A E : Type 0} (r : Result A E) (ops : List Op) (op : Op) (id removal : OpId) (old new : Parts) → op ≡ Revive id removal → Keeps ops old → Accepts size ops op → new.marks ≡ old.marks → new.places ≡ old.places → IsNewest (ops ++ op ∷ []) new.newest → IfOk r (λ _. Shows new.sequence.elements (ops ++ op ∷ [])) → IfOk r (λ _. Holds new.sequence (filter is_edit ops ++ op ∷ [])) → IfOk r (λ _. Keeps (ops ++ op ∷ []) new)
+  keeps_revival r ops op id removal old new is k accepted marks same newest shows held =
+      keeps_moved r ops op old new (ap is_edit is) (ap is_mark is) k marks same newest
+      (λ shown. revival_shows ops old.sequence.elements new.sequence.elements op id removal is k.shows accepted shown) shows held
 
 pub keeps_mark : {A E : Type 0} (r : Result A E) (ops : List Op) (op : Op) (old new : Parts) → is_edit op ≡ false → is_mark op ≡ true → Keeps ops old → new.sequence ≡ old.sequence → IsNewest (ops ++ op ∷ []) new.newest → Shows old.sequence.elements (ops ++ op ∷ []) → IfOk r (λ _. new.marks ≡ old.marks ++ op ∷ []) → IfOk r (λ _. AreMarkPlaces old.sequence.elements (old.marks ++ op ∷ []) new.places) → IfOk r (λ _. Keeps (ops ++ op ∷ []) new)
 keeps_mark (Ok a) ops op old new fails mark k same newest shows marks places = record {
@@ -86,9 +97,12 @@ no_insert op fails x p c e = false≢true (sym fails ∙ ap is_edit e)
 pub no_remove : (op : Op) → is_edit op ≡ false → (r x : OpId) → op ≡ Remove r x → ⊥
 no_remove op fails r x e = false≢true (sym fails ∙ ap is_edit e)
 
+pub no_revive : (op : Op) → is_edit op ≡ false → (v r : OpId) → op ≡ Revive v r → ⊥
+no_revive op fails v r e = false≢true (sym fails ∙ ap is_edit e)
+
 module _ {size : Size} where
-  pub shows_mark : (ops : List Op) (op : Op) (old : Parts) → is_edit op ≡ false → Keeps ops old → Accepts size ops op → Shows old.sequence.elements (ops ++ op ∷ [])
-  shows_mark ops op old fails k a = shows_other ops old.sequence.elements op a (no_insert op fails) (no_remove op fails) k.shows
+  pub shows_mark : (ops : List Op) (op : Op) (es : List Element) → is_edit op ≡ false → Shows es ops → Accepts size ops op → Shows es (ops ++ op ∷ [])
+  shows_mark ops op es fails shows a = shows_other ops es op a (no_insert op fails) (no_remove op fails) (no_revive op fails) shows
 
 -- the marks kept are the mark operations among all
 pub are_marks : (ops marks : List Op) → marks ≡ filter is_mark ops → AreMarks ops marks

@@ -4,7 +4,6 @@ pub mod Sizes
 pub mod Trying
 pub mod Few
 pub mod Spacing
-pub mod Rooms
 pub mod Edits
 pub mod Placing
 pub mod Keeping

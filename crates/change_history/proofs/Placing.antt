@@ -16,7 +16,7 @@ use Rattle.char_sequence.specs.Tree.{Present}
 use Rattle.mark_places.specs.Places.{AreMarkPlaces}
 use Rattle.mark_places.specs.MarkPlace.{MarkPlace}
 use Rattle.mark_places.proofs.Boundaries.{lies_hidden}
-use Rattle.version_laws.proofs.Put.{ArePut, IsHidden}
+use Rattle.version_laws.proofs.Put.{ArePut, DiffersInOne}
 use Rattle.change_history.specs.declared.parts.Parts.{Parts}
 use Rattle.change_history.specs.Kept.{Keeps}
 use Rattle.change_history.proofs.Edits.{inserts_counted}
@@ -29,8 +29,8 @@ places_put es later place count operations old new put shifted places =
     subst (λ l. AreMarkPlaces l operations new) put.are
     (shifted put.front put.run put.back operations put.ahead put.size (subst (λ l. AreMarkPlaces l operations old) (sym put.were) places))
 
--- A removal moves none.
-pub places_hidden : (es later : List Element) (operations : List Op) (places : List MarkPlace) → IsHidden es later → AreMarkPlaces es operations places → AreMarkPlaces later operations places
+-- A removal or a revival moves none.
+pub places_hidden : (es later : List Element) (operations : List Op) (places : List MarkPlace) → DiffersInOne es later → AreMarkPlaces es operations places → AreMarkPlaces later operations places
 places_hidden es later operations places hidden held = subst (λ l. AreMarkPlaces l operations places) hidden.are (record {
   sized = held.sized;
   each = λ p there.
@@ -73,7 +73,7 @@ insert_fits ops op parts insert k a =
     let size = text_counted ops parts k in
     ⊎_elim
     (λ (low : count_by is_insert ops < 262144). omega (arith, size))
-    (λ (full : 262144 ≤ count_by is_insert ops). absurd (a.room (insert, inl full)))
+    (λ (full : 262144 ≤ count_by is_insert ops). absurd (a.room (inl (insert, full))))
     (cases_lt (count_by is_insert ops) 262144)
 
 pub run_fits : (ops : List Op) (id : OpId) (parent : Option OpId) (cs : List ℕ) (n : ℕ) (parts : Parts) → n ≤ length cs → Keeps ops parts → AcceptsRun Large ops id parent cs → length parts.sequence.elements + n < 2 ^ 30

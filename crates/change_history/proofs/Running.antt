@@ -1,5 +1,5 @@
 -- The inserts of a run are applied piece after piece.
-use Rattle.std.proofs.Common.{inr, inl, ⊎_elim, false, ◌≡◌, ℕ, zero, suc, ◌+◌, ◌-◌, ◌<◌, ◌≤◌, List, [], ◌∷◌, ◌++◌, Option, Some, length, take, drop, refl, sym, ap, ◌∙◌, subst, arith, append_assoc}
+use Rattle.std.proofs.Common.{inr, inl, ⊎_elim, true, false, ◌≡◌, ℕ, zero, suc, ◌+◌, ◌-◌, ◌<◌, ◌≤◌, List, [], ◌∷◌, ◌++◌, Option, Some, length, take, drop, refl, sym, ap, ◌∙◌, subst, arith, append_assoc}
 use Rattle.std.specs.List.{count_by, slice_get, filter, Contains}
 use Rattle.std.specs.Prelude.{encode_utf8_all}
 use Rattle.std.proofs.lemmas.List.{append-nil, length-drop}
@@ -10,10 +10,10 @@ use Rattle.change_ops.specs.declared.id.OpId.{OpId}
 use Rattle.change_ops.specs.declared.operation.Op.{Op}
 use Rattle.change_ops.specs.declared.operation.Op.TheVariants.{Insert}
 use Rattle.change_ops.specs.declared.line.Line.TheVariants.{Run}
-use Rattle.change_ops.specs.Operations.{id_of, is_insert, is_edit, is_mark, Names}
+use Rattle.change_ops.specs.Operations.{id_of, is_insert, is_edit, is_mark, Names, NamesRemoval}
 use Rattle.change_ops.specs.Runs.{next_id, inserts_from}
 use Rattle.change_ops.proofs.SpelledLines.{ops_count}
-use Rattle.char_sequence.specs.Acceptance.{Used, IsStale, HasNoRoom, Accepts}
+use Rattle.char_sequence.specs.Acceptance.{Used, IsStale, NamesId, HasNoRoom, Accepts}
 use Rattle.char_sequence.specs.Held.{Holds}
 use Rattle.char_sequence.specs.Newest.{IsNewest}
 use Rattle.char_sequence.specs.Order.{Shows}
@@ -187,6 +187,12 @@ no_mark [] id parent i op g = absurd (none-some op g)
 no_mark (c ∷ cs) id parent zero op g = ap is_mark (sym (same_Some (Insert id parent c) op g))
 no_mark (c ∷ cs) id parent (suc i) op g = no_mark cs (next_id id) (Some id) i op g
 
+names_none : (cs : List ℕ) (id : OpId) (parent : Option OpId) (i : ℕ) (op : Op) → slice_get (inserts_from id parent cs) i ≡ Some op → (r : OpId) → NamesRemoval op r → ⊥
+unfolding inserts_from
+names_none [] id parent i op g r names = absurd (none-some op g)
+names_none (c ∷ cs) id parent zero op g r names = subst (λ o. NamesRemoval o r) (sym (same_Some (Insert id parent c) op g)) names
+names_none (c ∷ cs) id parent (suc i) op g r names = names_none cs (next_id id) (Some id) i op g r names
+
 -- what counting tells of an insert
 record IsCounted (size : Size) (ops : List Op) (op : Op) : Type 0 where
   fresh : IsStale ops op → ⊥
@@ -203,7 +209,16 @@ pub record IsRunCounted (size : Size) (ops : List Op) (id : OpId) (parent : Opti
 module _ {size : Size} where
   first_counted : (ops : List Op) (id : OpId) (parent : Option OpId) (c : ℕ) (cs : List ℕ) → IsRunCounted size ops id parent (c ∷ cs) → IsCounted size ops (Insert id parent c)
   first_counted ops id parent c cs a = record {
-    fresh = λ stale. ⊎_elim (λ (u : Used ops id). a.fresh u) (λ (u : (x : OpId) × Names (Insert id parent c) x × (id.counter ≤ x.counter)). a.above u.0 u.1 u.2) stale;
+    fresh =
+        λ stale.
+        ⊎_elim
+        (λ (u : Used ops id). a.fresh u)
+        (λ (u : (x : OpId) × NamesId (Insert id parent c) x × (id.counter ≤ x.counter)).
+        ⊎_elim
+        (λ (named : Names (Insert id parent c) u.0). a.above u.0 named u.2)
+        (λ (none : NamesRemoval (Insert id parent c) u.0). absurd none)
+        u.1)
+        stale;
     known = λ x n. a.known x n;
     few = let room = a.room in omega (arith, room);
   }
@@ -248,7 +263,7 @@ module _ {size : Size} where
       let first : Accepts size ops (Insert id parent c) = subst (λ o. Accepts size ops o) (sym (same_Some (Insert id parent c) op g)) a in
       record {
         fresh = λ used. first.fresh (inl used);
-        above = λ x e le. first.fresh (inr (x, e, le));
+        above = λ x e le. first.fresh (inr (x, inl e, le));
         known = λ x e. first.known x e;
         room = room;
       }
@@ -273,12 +288,13 @@ module _ {size : Size} where
         accepted = record {
           fresh = one.fresh;
           known = one.known;
+          removal = λ r names. absurd (names_none cs id parent (i - from) op here r names);
           room =
               λ full.
               ⊎_elim
-              (λ (many : most_characters size ≤ count_by is_insert (ops ++ take i added)). let few = one.few in absurd (omega (arith, few, many)))
-              (λ (none : HasNoRoom (ops ++ take i added) op). short i op g one.few none)
-              full.1;
+              (λ (many : (is_insert op ≡ true) × (most_characters size ≤ count_by is_insert (ops ++ take i added))). let few = one.few in let much = many.1 in absurd (omega (arith, few, much)))
+              (λ (none : HasNoRoom (ops ++ take i added) op). short i op g (λ insert. one.few) none)
+              full;
         };
         room = λ many. false≢true (sym (no_mark cs id parent (i - from) op here) ∙ many.0);
       })

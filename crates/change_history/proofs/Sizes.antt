@@ -1,5 +1,5 @@
 -- What is accepted at any size is accepted at the large one.
-use Rattle.std.proofs.Common.{◌≡◌, ℕ, ◌≤◌, List, Option, Some, length, take, inl, inr, ⊎_elim, arith}
+use Rattle.std.proofs.Common.{◌≡◌, true, ℕ, ◌≤◌, List, Option, Some, length, take, inl, inr, ⊎_elim, arith}
 use Rattle.std.specs.List.{count_by}
 use Rattle.change_ops.specs.Changes.{Change, operations}
 use Rattle.change_ops.specs.Operations.{is_insert, is_mark}
@@ -28,7 +28,13 @@ pub accepts_large : {size : Size} {ops : List Op} {op : Op} → Accepts size ops
 accepts_large {size} {ops} {op} a = record {
   fresh = a.fresh;
   known = a.known;
-  room = λ full. a.room (full.0, ⊎_elim (λ (many : 262144 ≤ count_by is_insert ops). inl (let most = most_characters-large size in omega (arith, many, most))) (λ (none : HasNoRoom ops op). inr none) full.1);
+  removal = a.removal;
+  room =
+      λ full.
+      ⊎_elim
+      (λ (many : (is_insert op ≡ true) × (262144 ≤ count_by is_insert ops)). a.room (inl (many.0, let much = many.1 in let most = most_characters-large size in omega (arith, much, most))))
+      (λ (none : HasNoRoom ops op). a.room (inr none))
+      full;
 }
 
 pub follows_large : {size : Size} {ops : List Op} {op : Op} → MayFollow size ops op → MayFollow Large ops op

@@ -3,7 +3,6 @@ pub mod Accepted
 pub mod Kept
 pub mod Next
 pub mod Tally
-pub mod Room
 pub mod Trial
 pub mod Texts
 pub mod VersionAt

@@ -1,6 +1,6 @@
 -- What is counted of the operations before a peer's next one, and how far the operations of a change are accepted.
 use Rattle.std.specs.Prelude.{◌≡◌, ◌↔◌, ◌≤◌, ◌<◌, ◌+◌, ℕ, List, ◌++◌, length, take, count_by, Contains, Result, Ok, Err}
-use Rattle.std.specs.Prelude.{Some, slice_get}
+use Rattle.std.specs.Prelude.{true, Some, slice_get}
 use Rattle.std.specs.List.Sorted.{IsStrictlyIncreasing}
 use Rattle.change_ops.specs.declared.id.OpId.{OpId}
 use Rattle.change_ops.specs.declared.operation.Op.{Op}
@@ -8,7 +8,7 @@ use Rattle.change_ops.specs.Operations.{id_of, is_insert, is_mark}
 use Rattle.change_ops.specs.Sizes.{most_characters}
 use Rattle.change_ops.specs.declared.size.Size.{Size}
 use Rattle.char_sequence.specs.Acceptance.{Used, HasNoRoom}
-use Rattle.char_sequence.specs.Tree.{Present}
+use Rattle.char_sequence.specs.Tree.{Present, IsRemoval}
 use Rattle.change_history.specs.declared.parts.Parts.{Parts}
 use Rattle.change_history.specs.declared.tally.Tally.{Tally}
 use Rattle.change_history.specs.declared.refusal.ApplyError.{ApplyError}
@@ -29,10 +29,12 @@ pub record IsTally (ops own : List Op) (node : ℕ) (tally : Tally) : Type 0 whe
   pub marks : tally.marks ≡ count_by is_mark (ops ++ own)
   pub rising : IsStrictlyIncreasing tally.inserted.items
   pub inserted : (x : OpId) → Present own x ↔ (x.node ≡ node) × Contains tally.inserted.items x.counter
+  pub removed : (r : OpId) → IsRemoval own r ↔ Contains tally.removed r
 
--- the visible text has room for the operation, if it is an insert that is not one too many
+-- the visible text has room for the operation, unless that is an insert that is one too many
 abbrev pub IsShort : Size → List Op → Op → Type 0
-IsShort size ops op = count_by is_insert ops < most_characters size → HasNoRoom ops op → ⊥
+IsShort size ops op =
+    (is_insert op ≡ true → count_by is_insert ops < most_characters size) → HasNoRoom ops op → ⊥
 
 -- that holds of each of several, after those before it
 abbrev pub AreShort : Size → List Op → List Op → Type 0

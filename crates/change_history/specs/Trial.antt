@@ -1,24 +1,36 @@
--- How far the operations of a change are accepted, where their inserts may have no room.
-use Rattle.std.specs.Prelude.{ℕ, ◌+◌, ◌<◌, List, ◌++◌, length, take, Result, Ok, Err}
+-- How far the operations of a change are accepted, where the text may have no room for what they show.
+use Rattle.std.specs.Prelude.{ℕ, ◌+◌, ◌<◌, List, ◌++◌, length, take, unwrap_or, Result, Ok, Err}
+use Rattle.std.specs.List.{filter}
+use Rattle.change_ops.specs.Operations.{is_edit}
 use Rattle.change_ops.specs.declared.operation.Op.{Op}
 use Rattle.change_ops.specs.declared.size.Size.{Size}
+use Rattle.char_sequence.specs.Held.{Sequence, Holds}
+use Rattle.char_sequence.specs.Order.{Shows}
 use Rattle.change_history.specs.declared.parts.Parts.{Parts}
 use Rattle.change_history.specs.declared.trial.Trial.{Trial}
 use Rattle.change_history.specs.declared.refusal.ApplyError.{ApplyError}
 use Rattle.change_history.specs.declared.refusal.ApplyError.TheVariants as apply
 use Rattle.change_history.specs.Accepted.{AllFollow, IsFirstRefused}
 use Rattle.change_history.specs.Kept.{Keeps, StandAt}
-use Rattle.change_history.specs.Room.{IsRoom}
 use Rattle.change_history.specs.Tally.{AreOf, IsTally}
 
--- the first `count` of a peer's operations are accepted after those applied, and are counted, with the room that is
--- left behind them
+-- the sequence is that of all operations, and holds those that are edits
+pub record IsSequenceOf (ops : List Op) (sequence : Sequence) : Type 0 where
+  pub shows : Shows sequence.elements ops
+  pub held : Holds sequence (filter is_edit ops)
+
+-- the sequence that a trial has, which is that of the parts where it has no copy
+abbrev pub sequence_of : Trial → Parts → Sequence
+sequence_of trial parts = unwrap_or trial.copy parts.sequence
+
+-- the first `count` of a peer's operations are accepted after those applied, and are counted, with the sequence behind
+-- them
 pub record IsTried (size : Size) (ops added : List Op) (count node : ℕ) (parts : Parts) (trial : Trial) : Type 0 where
   pub kept : Keeps ops parts
   pub own : AreOf node added
   pub follow : AllFollow size ops added count
   pub counted : IsTally ops (take count added) node trial.tally
-  pub room : IsRoom parts.sequence.elements (ops ++ take count added) trial.room
+  pub sequence : IsSequenceOf (ops ++ take count added) (sequence_of trial parts)
 
 -- the operations are the next ones of a peer
 abbrev pub CanTry : Size → List Op → Parts → Trial → Type 0

@@ -1,6 +1,7 @@
 //! Whether the operations of a change are accepted one after the other, found without a change to what is kept.
 ghost use Rattle.std.specs.Prelude.{◌<◌, ◌≤◌, ◌+◌, ℕ, List, MatchResult, IfOk, length, take};
 ghost use Rattle.change_ops.specs.Runs.{inserts_of};
+ghost use Rattle.change_ops.specs.IdRuns.{removals_of, revivals_of};
 ghost use Rattle.change_ops.specs.Lines.{ops_of, ops_of_lines};
 ghost use Rattle.change_ops.specs.Sizes.{most_characters};
 ghost use Rattle.change_ops.specs.declared.operation.Op.{Op};
@@ -12,6 +13,7 @@ use crate::parts::Parts;
 use crate::refusal::{ApplyError, SubmitError, at_index};
 use crate::tally::Tally;
 use crate::trial::{has_space, try_all};
+use change_ops::id_run::IdRun;
 use change_ops::line::Line;
 use change_ops::run::Run;
 use change_ops::size::Size;
@@ -70,6 +72,38 @@ fn admit_run(size: Size, parts: &Parts, tally: &mut Tally, run: &Run) -> Result<
     }
 }
 
+/// Counts the removals of a run one by one in the same way.
+fn admit_removals(
+    size: Size,
+    parts: &Parts,
+    tally: &mut Tally,
+    run: IdRun,
+) -> Result<(), ApplyError>
+    requires { AreNext size (removals_of run) parts.now tally.old }
+    ensures { Admits size (removals_of run) parts.now tally.old tally.new result }
+{
+    for index in 0..run.count() as usize {
+        parts.admit(size, tally, &run.removal(index))?;
+    }
+    Ok(())
+}
+
+/// Counts the revivals of a run one by one in the same way.
+fn admit_revivals(
+    size: Size,
+    parts: &Parts,
+    tally: &mut Tally,
+    run: IdRun,
+) -> Result<(), ApplyError>
+    requires { AreNext size (revivals_of run) parts.now tally.old }
+    ensures { Admits size (revivals_of run) parts.now tally.old tally.new result }
+{
+    for index in 0..run.count() as usize {
+        parts.admit(size, tally, &run.revival(index))?;
+    }
+    Ok(())
+}
+
 /// Counts the operations of a line in the same way.
 fn admit_line(size: Size, parts: &Parts, tally: &mut Tally, line: &Line) -> Result<(), ApplyError>
     requires { AreNext size (ops_of line.now) parts.now tally.old }
@@ -78,6 +112,8 @@ fn admit_line(size: Size, parts: &Parts, tally: &mut Tally, line: &Line) -> Resu
     match line {
         Line::Operation(op) => parts.admit(size, tally, op),
         Line::Run(run) => admit_run(size, parts, tally, run),
+        Line::Removals(run) => admit_removals(size, parts, tally, *run),
+        Line::Revivals(run) => admit_revivals(size, parts, tally, *run),
     }
 }
 
@@ -117,7 +153,7 @@ pub(crate) fn admit_all(
     ensures { (ops : List Op) → Keeps ops parts.now
         → MatchResult result (λ _. AreAllAccepted size ops lines.now) (IsNotAccepted size ops lines.now) }
 {
-    if has_space(parts, size, lines) {
+    if has_space(parts, lines) {
         count_all(alloc, size, parts, node, lines)
     } else {
         try_all(alloc, size, parts, node, lines)

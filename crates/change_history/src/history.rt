@@ -3,6 +3,7 @@ ghost use Rattle.std.specs.Prelude.{IfOk, MatchResult, MatchOption, length, coun
 ghost use Rattle.change_ops.specs.Changes.{Change, operations};
 ghost use Rattle.change_ops.specs.Operations.{is_insert, is_mark};
 ghost use Rattle.change_ops.specs.Runs.{inserts_of};
+ghost use Rattle.change_ops.specs.IdRuns.{removals_of, revivals_of};
 ghost use Rattle.change_ops.specs.Lines.{ops_of, ops_of_lines};
 ghost use Rattle.change_ops.specs.Spelling.{change_text};
 ghost use Rattle.change_ops.specs.Sizes.{most_characters, most_marks, most_changes};
@@ -28,6 +29,7 @@ use crate::refusal::SubmitError;
 use change_log::text::ChangeText;
 use change_ops::change::Change;
 use change_ops::id::OpId;
+use change_ops::id_run::IdRun;
 use change_ops::line::Line;
 use change_ops::run::Run;
 use change_ops::size::Size;
@@ -119,6 +121,28 @@ fn apply_run(parts: &mut Parts, run: &Run) -> Result<(), AllocError>
     Ok(())
 }
 
+/// Applies the removals of a run one by one in the same way.
+fn apply_removals(parts: &mut Parts, run: IdRun) -> Result<(), AllocError>
+    requires { AreAcceptedNext (removals_of run) parts.old }
+    ensures { Applies (removals_of run) parts.old parts.new result }
+{
+    for index in 0..run.count() as usize {
+        parts.add(&run.removal(index))?;
+    }
+    Ok(())
+}
+
+/// Applies the revivals of a run one by one in the same way.
+fn apply_revivals(parts: &mut Parts, run: IdRun) -> Result<(), AllocError>
+    requires { AreAcceptedNext (revivals_of run) parts.old }
+    ensures { Applies (revivals_of run) parts.old parts.new result }
+{
+    for index in 0..run.count() as usize {
+        parts.add(&run.revival(index))?;
+    }
+    Ok(())
+}
+
 /// Applies the operations of a line in the same way.
 fn apply_line(parts: &mut Parts, line: &Line) -> Result<(), AllocError>
     requires { AreAcceptedNext (ops_of line.now) parts.old }
@@ -127,6 +151,8 @@ fn apply_line(parts: &mut Parts, line: &Line) -> Result<(), AllocError>
     match line {
         Line::Operation(op) => parts.add(op),
         Line::Run(run) => apply_run(parts, run),
+        Line::Removals(run) => apply_removals(parts, *run),
+        Line::Revivals(run) => apply_revivals(parts, *run),
     }
 }
 

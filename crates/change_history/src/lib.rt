@@ -6,6 +6,5 @@ pub mod history;
 mod kept_change;
 mod parts;
 pub mod refusal;
-mod room;
 mod tally;
 mod trial;

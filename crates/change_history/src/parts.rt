@@ -1,12 +1,12 @@
 ghost use Rattle.std.specs.Prelude.{◌≡◌, ◌↔◌, ◌<◌, ℕ, List, [], ◌++◌, ◌∷◌, true, false, length, Contains, Some, IsTrue};
 ghost use Rattle.std.specs.Prelude.{MatchResult, MatchOption, IfOk, ◌≤◌, ◌+◌, ◌^◌, take, count_by};
 ghost use Rattle.change_ops.specs.Lines.{ops_of_lines};
-ghost use Rattle.change_ops.specs.Operations.{id_of, is_insert, is_mark, Names};
+ghost use Rattle.change_ops.specs.Operations.{id_of, is_insert, is_mark, Names, NamesRemoval};
 ghost use Rattle.change_ops.specs.Runs.{inserts_from};
 ghost use Rattle.change_ops.specs.declared.operation.Op.{Op};
 ghost use Rattle.change_ops.specs.declared.size.Size.TheVariants.{Large};
 ghost use Rattle.char_sequence.specs.Order.{SameSet, Shows};
-ghost use Rattle.char_sequence.specs.Tree.{Present};
+ghost use Rattle.char_sequence.specs.Tree.{Present, IsRemoval};
 ghost use Rattle.char_sequence.specs.Visible.{visible_text};
 ghost use Rattle.char_sequence.specs.Newest.{IsLastCounter};
 ghost use Rattle.char_sequence.specs.RunElements.{AcceptsRun};
@@ -31,12 +31,13 @@ use change_ops::operation::{Named, Op};
 use change_ops::size::Size;
 use char_sequence::newest::Newest;
 use char_sequence::runs::later;
-use char_sequence::sequence::Sequence;
+use char_sequence::sequence::{Sequence, named_removal};
 use mark_anchors::format::Format;
 use mark_anchors::marks::{Marks, MarksError};
 use mark_places::boundary::place_of;
 use mark_places::places::MarkPlaces;
 use memory_budget::Budget;
+use removal_runs::ranges::IdRanges;
 use span_flatten::flatten::{flatten, same_set_same_spans};
 use std::alloc::{AllocError, Global};
 use version_pieces::version::{NextVersion, PieceVersion};
@@ -109,6 +110,7 @@ impl Parts {
             characters: self.sequence.len(),
             marks: self.marks.operations().len(),
             inserted: Vec::new(alloc),
+            removed: IdRanges::new(alloc),
         }
     }
 
@@ -133,7 +135,7 @@ impl Parts {
     }
 
     /// Whether a character that the operation names is not there.
-    fn is_unknown(&self, tally: &Tally, op: &Op) -> bool
+    fn lacks_character(&self, tally: &Tally, op: &Op) -> bool
         ensures yes { (ops own : List Op) (node : ℕ) → Keeps ops self.now → IsTally ops own node tally.now
             → result ≡ true → IsUnknown (ops ++ own) op.now }
         ensures no { (ops own : List Op) (node : ℕ) → Keeps ops self.now → IsTally ops own node tally.now
@@ -141,6 +143,39 @@ impl Parts {
     {
         let Named { first, second } = op.named();
         !self.is_there(tally, first) || !self.is_there(tally, second)
+    }
+
+    /// Whether an operation is the removal with this id.
+    fn has_removal(&self, tally: &Tally, removal: OpId) -> bool
+        ensures { (ops own : List Op) (node : ℕ) → Keeps ops self.now → IsTally ops own node tally.now
+            → IsTrue result ↔ IsRemoval (ops ++ own) removal }
+    {
+        tally.has_removal(removal) || self.sequence.has_removal(removal)
+    }
+
+    /// Whether the removal that the operation names, if it names one, is not there.
+    fn lacks_removal(&self, tally: &Tally, op: &Op) -> bool
+        ensures yes { (ops own : List Op) (node : ℕ) → Keeps ops self.now → IsTally ops own node tally.now
+            → result ≡ true → IsUnknown (ops ++ own) op.now }
+        ensures no { (ops own : List Op) (node : ℕ) → Keeps ops self.now → IsTally ops own node tally.now
+            → result ≡ false → (r : OpId) → NamesRemoval op.now r → IsRemoval (ops ++ own) r }
+    {
+        match named_removal(op) {
+            Some(removal) => !self.has_removal(tally, removal),
+            None => false,
+        }
+    }
+
+    /// Whether a character or a removal that the operation names is not there.
+    fn is_unknown(&self, tally: &Tally, op: &Op) -> bool
+        ensures yes { (ops own : List Op) (node : ℕ) → Keeps ops self.now → IsTally ops own node tally.now
+            → result ≡ true → IsUnknown (ops ++ own) op.now }
+        ensures characters { (ops own : List Op) (node : ℕ) → Keeps ops self.now → IsTally ops own node tally.now
+            → result ≡ false → (x : OpId) → Names op.now x → Present (ops ++ own) x }
+        ensures removal { (ops own : List Op) (node : ℕ) → Keeps ops self.now → IsTally ops own node tally.now
+            → result ≡ false → (r : OpId) → NamesRemoval op.now r → IsRemoval (ops ++ own) r }
+    {
+        self.lacks_character(tally, op) || self.lacks_removal(tally, op)
     }
 
     /// Whether a peer's operation, which the visible text has room for, is accepted after those applied and those
@@ -225,6 +260,7 @@ impl Parts {
                 Ok(())
             }
             Op::Remove { .. } => self.sequence.remove(op),
+            Op::Revive { .. } => self.sequence.revive(op),
             Op::AddMark { .. } => {
                 add_mark(&mut self.marks, &mut self.places, &self.sequence, op)
             }

@@ -13,10 +13,10 @@ pub enum Refusal {
     /// The counter isn't above its peer's last one, or not above one that the operation names.
     #[error("{STALE_COUNTER}")]
     StaleCounter,
-    /// A character that the operation names isn't there.
+    /// A character or a removal that the operation names isn't there.
     #[error("{UNKNOWN_REF}")]
     UnknownRef,
-    /// As many characters were inserted as the size allows, or the visible text has no room for its bytes.
+    /// As many characters were inserted as the size allows, or the visible text has no room for the one that is shown.
     #[error("{DOCUMENT_FULL}")]
     DocumentFull,
     /// As many mark operations were accepted as the size allows.

@@ -7,7 +7,7 @@ ghost use Rattle.std.specs.List.Sorted.{IsStrictlyIncreasing};
 ghost use Rattle.change_ops.specs.Operations.{id_of, is_insert, is_mark};
 ghost use Rattle.change_ops.specs.declared.operation.Op.{Op};
 ghost use Rattle.char_sequence.specs.Acceptance.{IsStale};
-ghost use Rattle.char_sequence.specs.Tree.{Present};
+ghost use Rattle.char_sequence.specs.Tree.{Present, IsRemoval};
 ghost use Rattle.change_history.specs.Accepted.{MayFollow};
 ghost use Rattle.change_history.specs.Tally.{IsTally};
 
@@ -15,6 +15,7 @@ use change_ops::id::OpId;
 use change_ops::operation::Op;
 use change_ops::size::Size;
 use char_sequence::sequence::is_above_named;
+use removal_runs::ranges::IdRanges;
 use std::alloc::AllocError;
 
 /// What is counted of the operations that were applied, and of the peer's own that follow them and are not applied yet.
@@ -27,6 +28,8 @@ pub struct Tally {
     pub(crate) marks: usize,
     // The counters of the inserts that are not applied.
     pub(crate) inserted: Vec<u64>,
+    // The removals that are not applied.
+    pub(crate) removed: IdRanges,
 }
 
 /// Whether a number is among rising ones.
@@ -55,6 +58,14 @@ impl Tally {
         ensures { (ops own : List Op) (node : ℕ) → IsTally ops own node self.now → IsTrue result ↔ Present own id }
     {
         id.node() == self.node && is_among(&self.inserted, id.counter())
+    }
+
+    /// Whether an operation that is not applied is the removal with this id.
+    pub fn has_removal(&self, removal: OpId) -> bool
+        ensures { (ops own : List Op) (node : ℕ) → IsTally ops own node self.now
+            → IsTrue result ↔ IsRemoval own removal }
+    {
+        self.removed.has(removal)
     }
 
     /// Whether the operation inserts one character too many.
@@ -95,7 +106,11 @@ impl Tally {
                 self.characters += 1;
                 Ok(())
             }
-            Op::Remove { .. } => Ok(()),
+            Op::Remove { id, .. } => {
+                self.removed.insert(*id)?;
+                Ok(())
+            }
+            Op::Revive { .. } => Ok(()),
             Op::AddMark { .. } => {
                 self.marks += 1;
                 Ok(())

@@ -1,28 +1,41 @@
-//! The trial of a change whose characters the visible text may have no room for: its operations are counted in their
-//! order, with the bytes that each takes and gives back.
+//! The trial of a change whose characters the visible text may have no room for: its operations are applied in their
+//! order to a copy of the sequence.
 ghost use Rattle.std.specs.Prelude.{◌≡◌, ℕ, ◌+◌, ◌<◌, List, ◌∷◌, ◌++◌, [], true, nat_le, sum_by, MatchOption};
 ghost use Rattle.std.specs.Prelude.{MatchResult, IfOk, length, encode_utf8_all};
-ghost use Rattle.change_ops.specs.Operations.{bytes_of, id_of};
+ghost use Rattle.change_ops.specs.Operations.{id_of};
 ghost use Rattle.change_ops.specs.Runs.{inserts_of};
+ghost use Rattle.change_ops.specs.IdRuns.{removals_of, revivals_of};
 ghost use Rattle.change_ops.specs.Lines.{ops_of, ops_of_lines};
 ghost use Rattle.change_ops.specs.declared.operation.Op.{Op};
+ghost use Rattle.char_sequence.specs.Acceptance.{most_growth, Accepts};
 ghost use Rattle.change_history.specs.Kept.{Keeps, AreAllAccepted, IsNotAccepted};
 ghost use Rattle.change_history.specs.Accepted.{MayFollow};
-ghost use Rattle.change_history.specs.Room.{IsRoom};
 ghost use Rattle.change_history.specs.Tally.{AreOf, AreShort, IsTally};
 ghost use Rattle.change_ops.specs.declared.size.Size.{Size};
-ghost use Rattle.change_history.specs.Trial.{CanTry, Tries};
+ghost use Rattle.change_history.specs.Trial.{IsSequenceOf, sequence_of, CanTry, Tries};
 
 use crate::parts::Parts;
 use crate::refusal::{ApplyError, SubmitError, at_index};
-use crate::room::Room;
 use crate::tally::Tally;
 use change_ops::character::Character;
+use change_ops::id_run::IdRun;
 use change_ops::line::Line;
 use change_ops::operation::Op;
 use change_ops::run::Run;
 use change_ops::size::{BYTE_LIMIT, Size};
+use char_sequence::sequence::Sequence;
 use std::alloc::{AllocError, Global};
+
+/// How many bytes the operation adds to the visible text at most.
+fn growth_of(op: &Op) -> usize
+    ensures { result ≡ most_growth op.now }
+{
+    match op {
+        Op::Revive { .. } => 4,
+        Op::Insert { .. } | Op::Remove { .. } => op.byte_count(),
+        Op::AddMark { .. } | Op::RemoveMark { .. } => 0,
+    }
+}
 
 /// The room that bytes leave, None where there is too little for them.
 fn room_behind(room: usize, bytes: usize) -> Option<usize>
@@ -50,20 +63,22 @@ fn room_behind_all(room: usize, characters: &[Character]) -> Option<usize>
     Some(left)
 }
 
-/// The room that the characters of a line's inserts leave, in the same way.
+/// The room that is left at least behind the operations of a line, in the same way.
 fn room_behind_line(room: usize, line: &Line) -> Option<usize>
-    ensures { MatchOption result (room < sum_by bytes_of (ops_of line.now))
-        (λ left. left + sum_by bytes_of (ops_of line.now) ≡ room) }
+    ensures { MatchOption result (room < sum_by most_growth (ops_of line.now))
+        (λ left. left + sum_by most_growth (ops_of line.now) ≡ room) }
 {
     match line {
-        Line::Operation(op) => room_behind(room, op.byte_count()),
+        Line::Operation(op) => room_behind(room, growth_of(op)),
         Line::Run(run) => room_behind_all(room, run.characters()),
+        Line::Removals(_) => Some(room),
+        Line::Revivals(run) => room_behind(room, 4 * run.count() as usize),
     }
 }
 
-/// Whether so many bytes are room for all characters that the lines insert.
+/// Whether so many bytes are room for all characters that the lines may show.
 fn has_room(room: usize, lines: &[Line]) -> bool
-    ensures { result ≡ nat_le (sum_by bytes_of (ops_of_lines lines.now)) room }
+    ensures { result ≡ nat_le (sum_by most_growth (ops_of_lines lines.now)) room }
 {
     let mut left = room;
     for line in lines {
@@ -75,50 +90,86 @@ fn has_room(room: usize, lines: &[Line]) -> bool
     true
 }
 
-/// Whether no insert of the lines lacks room in the visible text, as far as can be told without applying them: the
-/// small size has too few characters for that, and a removal only makes room.
-pub(crate) fn has_space(parts: &Parts, size: Size, lines: &[Line]) -> bool
-    ensures { (ops : List Op) → Keeps ops parts.now → result ≡ true → AreShort size ops (ops_of_lines lines.now) }
+/// Whether no operation of the lines lacks room in the visible text, as far as can be told without applying them: a
+/// removal only makes room.
+pub(crate) fn has_space(parts: &Parts, lines: &[Line]) -> bool
+    ensures { (size : Size) (ops : List Op) → Keeps ops parts.now → result ≡ true
+        → AreShort size ops (ops_of_lines lines.now) }
 {
-    match size {
-        Size::Small => true,
-        Size::Large => has_room(BYTE_LIMIT - parts.bytes(), lines),
-    }
+    has_room(BYTE_LIMIT - parts.bytes(), lines)
 }
 
-/// What is counted of the operations that were applied and of a peer's own that follow them, with the room that the
-/// visible text has behind them.
+/// What is counted of the operations that were applied and of a peer's own that follow them, with the sequence behind
+/// them.
 #[derive(Drop)]
 pub(crate) struct Trial {
     tally: Tally,
-    room: Room,
+    // None where that is the sequence of the parts: a change that is refused at once copies nothing.
+    copy: Option<Sequence>,
+}
+
+/// Applies the next operation, which is accepted, to the sequence behind others; after an error it is of no use.
+fn pass(sequence: &mut Sequence, op: &Op) -> Result<(), AllocError>
+    requires { (size : Size) × ((ops : List Op) × IsSequenceOf ops sequence.old × Accepts size ops op.now) }
+    ensures { (size : Size) (ops : List Op) → IsSequenceOf ops sequence.old → Accepts size ops op.now
+        → IfOk result (λ _. IsSequenceOf (ops ++ op.now ∷ []) sequence.new) }
+{
+    match op {
+        Op::Insert { .. } => sequence.insert(op),
+        Op::Remove { .. } => sequence.remove(op),
+        Op::Revive { .. } => sequence.revive(op),
+        Op::AddMark { .. } => Ok(()),
+        Op::RemoveMark { .. } => Ok(()),
+    }
 }
 
 impl Trial {
-    /// Counts the peer's next operation, which is accepted; after an error the trial is of no use.
+    /// The sequence behind the operations.
+    fn sequence<'a>(&'a self, parts: &'a Parts) -> &'a Sequence
+        ensures { result.now ≡ sequence_of self.now parts.now }
+    {
+        match &self.copy {
+            Some(copy) => copy,
+            None => parts.sequence(),
+        }
+    }
+
+    /// The same to be changed, which is then to be put back.
+    fn take_sequence(&mut self, parts: &Parts) -> Result<Sequence, AllocError>
+        ensures value { IfOk result (λ sequence. sequence ≡ sequence_of self.old parts.now) }
+        ensures tally { self.new.tally ≡ self.old.tally }
+    {
+        match self.copy.take() {
+            Some(copy) => Ok(copy),
+            None => parts.sequence().clone(),
+        }
+    }
+
+    /// Goes on behind the peer's next operation, which is accepted; after an error the trial is of no use.
     fn note(&mut self, parts: &Parts, op: &Op) -> Result<(), AllocError>
         requires { (size : Size) × ((ops : List Op) × ((own : List Op) × ((node : ℕ)
-            × Keeps ops parts.now × IsTally ops own node self.old.tally
-            × IsRoom parts.now.sequence.elements (ops ++ own) self.old.room × MayFollow size (ops ++ own) op.now))) }
-        ensures { (size : Size) (ops own : List Op) (node : ℕ) → Keeps ops parts.now
-            → IsTally ops own node self.old.tally
-            → IsRoom parts.now.sequence.elements (ops ++ own) self.old.room → (id_of op.now).node ≡ node
+            × IsTally ops own node self.old.tally × IsSequenceOf (ops ++ own) (sequence_of self.old parts.now)
+            × MayFollow size (ops ++ own) op.now))) }
+        ensures { (size : Size) (ops own : List Op) (node : ℕ) → IsTally ops own node self.old.tally
+            → IsSequenceOf (ops ++ own) (sequence_of self.old parts.now) → (id_of op.now).node ≡ node
             → MayFollow size (ops ++ own) op.now
             → IfOk result (λ _. IsTally ops (own ++ op.now ∷ []) node self.new.tally
-            × IsRoom parts.now.sequence.elements ((ops ++ own) ++ op.now ∷ []) self.new.room) }
+            × IsSequenceOf ((ops ++ own) ++ op.now ∷ []) (sequence_of self.new parts.now)) }
     {
-        self.room.pass(parts.sequence(), op)?;
+        let mut sequence = self.take_sequence(parts)?;
+        pass(&mut sequence, op)?;
+        self.copy = Some(sequence);
         self.tally.note(op)?;
         Ok(())
     }
 }
 
-/// Counts a peer's next operation, if it is accepted; after an error the trial is of no use.
+/// Tries a peer's next operation; after an error the trial is of no use.
 fn try_one(size: Size, parts: &Parts, trial: &mut Trial, op: &Op) -> Result<(), ApplyError>
     requires { CanTry size (op.now ∷ []) parts.now trial.old }
     ensures { Tries size (op.now ∷ []) parts.now trial.old trial.new result }
 {
-    if trial.room.lacks(op) {
+    if trial.sequence(parts).has_no_room(op) {
         return Err(ApplyError::Refused(parts.check_full(&trial.tally, op)));
     }
     if let Err(refusal) = parts.check(size, &trial.tally, op) {
@@ -130,7 +181,7 @@ fn try_one(size: Size, parts: &Parts, trial: &mut Trial, op: &Op) -> Result<(), 
     }
 }
 
-/// Counts the inserts of a run one by one, up to the first that is refused; after an error the trial is of no use.
+/// Tries the inserts of a run one by one, up to the first that is refused; after an error the trial is of no use.
 fn try_run(size: Size, parts: &Parts, trial: &mut Trial, run: &Run) -> Result<(), ApplyError>
     requires { CanTry size (inserts_of run.now) parts.now trial.old }
     ensures { Tries size (inserts_of run.now) parts.now trial.old trial.new result }
@@ -141,7 +192,29 @@ fn try_run(size: Size, parts: &Parts, trial: &mut Trial, run: &Run) -> Result<()
     Ok(())
 }
 
-/// Counts the operations of a line in the same way.
+/// Tries the removals of a run one by one in the same way.
+fn try_removals(size: Size, parts: &Parts, trial: &mut Trial, run: IdRun) -> Result<(), ApplyError>
+    requires { CanTry size (removals_of run) parts.now trial.old }
+    ensures { Tries size (removals_of run) parts.now trial.old trial.new result }
+{
+    for index in 0..run.count() as usize {
+        try_one(size, parts, trial, &run.removal(index))?;
+    }
+    Ok(())
+}
+
+/// Tries the revivals of a run one by one in the same way.
+fn try_revivals(size: Size, parts: &Parts, trial: &mut Trial, run: IdRun) -> Result<(), ApplyError>
+    requires { CanTry size (revivals_of run) parts.now trial.old }
+    ensures { Tries size (revivals_of run) parts.now trial.old trial.new result }
+{
+    for index in 0..run.count() as usize {
+        try_one(size, parts, trial, &run.revival(index))?;
+    }
+    Ok(())
+}
+
+/// Tries the operations of a line in the same way.
 fn try_line(size: Size, parts: &Parts, trial: &mut Trial, line: &Line) -> Result<(), ApplyError>
     requires { CanTry size (ops_of line.now) parts.now trial.old }
     ensures { Tries size (ops_of line.now) parts.now trial.old trial.new result }
@@ -149,10 +222,12 @@ fn try_line(size: Size, parts: &Parts, trial: &mut Trial, line: &Line) -> Result
     match line {
         Line::Operation(op) => try_one(size, parts, trial, op),
         Line::Run(run) => try_run(size, parts, trial, run),
+        Line::Removals(run) => try_removals(size, parts, trial, *run),
+        Line::Revivals(run) => try_revivals(size, parts, trial, *run),
     }
 }
 
-/// Looks at a peer's lines in their order, up to the first that is refused, where the text may lack room for some.
+/// Tries a peer's lines in their order, up to the first that is refused, where the text may lack room for some.
 pub(crate) fn try_all(
     alloc: Global,
     size: Size,
@@ -167,7 +242,7 @@ pub(crate) fn try_all(
 {
     let mut trial = Trial {
         tally: parts.tally(alloc, node),
-        room: Room::new(alloc, parts.sequence()),
+        copy: None,
     };
     for index in 0..lines.len() {
         if let Err(error) = try_line(size, parts, &mut trial, &lines[index]) {

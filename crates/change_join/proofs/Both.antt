@@ -1,16 +1,17 @@
 -- The change of the lines of two.
-use Rattle.std.proofs.Common.{◌≡◌, ℕ, ◌+◌, ◌<◌, ◌≤◌, true, List, [], ◌∷◌, ◌++◌, length, get_or, drop, add-one, drop-cons, refl, sym, ap, subst, ◌∙◌, arith, append_assoc, length-append}
-use Rattle.std.specs.Prelude.{IsTrue, nat_le, ◌==◌}
+use Rattle.std.proofs.Common.{◌≡◌, ℕ, Bool, ◌+◌, ◌<◌, ◌≤◌, true, List, [], ◌∷◌, ◌++◌, length, get_or, drop, add-one, drop-cons, refl, sym, ap, subst, ◌∙◌, arith, append_assoc, length-append}
+use Rattle.std.specs.Prelude.{IsTrue, nat_le, not, ◌&&◌, ◌==◌}
 use Rattle.std.specs.List.{AllByRecursion}
 use Rattle.std.proofs.lemmas.List.{drop_all}
 use Rattle.std.proofs.lemmas.Bool.{and_parts, leb-true, eqb-true}
 use Rattle.change_ops.specs.Changes.{Change, IsChange, IsLine, operations}
-use Rattle.change_ops.specs.Lines.{ops_of, ops_of_lines, count_of, line_within, has_line}
+use Rattle.change_ops.specs.Lines.{ops_of, ops_of_lines, count_of, count_of_lines, names_code, line_within, has_line}
+use Rattle.change_ops.specs.Operations.{is_revival}
 use Rattle.change_ops.specs.declared.line.Form.{Form}
-use Rattle.change_ops.specs.declared.line.Form.TheVariants.{First, Second}
+use Rattle.change_ops.specs.declared.line.Form.TheVariants.{First, Second, Third}
 use Rattle.change_ops.specs.declared.line.Line.{Line}
-use Rattle.change_ops.specs.declared.line.Line.TheVariants.{Operation, Run}
-use Rattle.change_ops.proofs.ChangeLaws.{more_ops, no_ops}
+use Rattle.change_ops.specs.declared.line.Line.TheVariants.{Operation, Run, Removals, Revivals}
+use Rattle.change_ops.proofs.RoomLaws.{more_count, no_count}
 use Rattle.change_ops.proofs.RunLaws.{run_limits}
 use Rattle.change_join.specs.Joined.{can_join, wider, both_of}
 
@@ -24,28 +25,61 @@ ops-append (line ∷ lines) more =
 pub both_operations : (change next : Change) → operations (both_of change next) ≡ operations change ++ operations next
 both_operations change next = ops-append change.lines next.lines
 
-pub both_count : (change next : Change) → length (operations (both_of change next)) ≡ length (operations change) + length (operations next)
-both_count change next = ap length (both_operations change next) ∙ length-append (operations change) (operations next)
+pub both_meant : (change next : Change) → length (operations (both_of change next)) ≡ length (operations change) + length (operations next)
+both_meant change next = ap length (both_operations change next) ∙ length-append (operations change) (operations next)
+
+-- how many they are
+pub count-append : (lines more : List Line) → count_of_lines (lines ++ more) ≡ count_of_lines lines + count_of_lines more
+count-append [] more = let none = no_count in omega (arith, none)
+count-append (line ∷ lines) more =
+    let all : count_of_lines (lines ++ more) ≡ count_of_lines lines + count_of_lines more = count-append lines more in
+    let whole : count_of_lines ((line ∷ lines) ++ more) ≡ count_of line + count_of_lines (lines ++ more) = more_count line (lines ++ more) in
+    let front : count_of_lines (line ∷ lines) ≡ count_of line + count_of_lines lines = more_count line lines in
+    omega (arith, all, whole, front)
+
+pub both_count : (change next : Change) → count_of_lines (both_of change next).lines ≡ count_of_lines change.lines + count_of_lines next.lines
+both_count change next = count-append change.lines next.lines
 
 -- what a test says
 pub record CanJoin (change next : Change) : Type 0 where
   pub node : change.node ≡ next.node
-  pub few : length (operations change) + length (operations next) ≤ 256
+  pub few : count_of_lines change.lines + count_of_lines next.lines ≤ 256
+  pub meant : length (operations change) + length (operations next) ≤ 262144
+
+abbrev pub counts_fit : Change → Change → Bool
+counts_fit change next = nat_le (count_of_lines change.lines + count_of_lines next.lines) 256
+
+abbrev pub meanings_fit : Change → Change → Bool
+meanings_fit change next = nat_le (length (operations change) + length (operations next)) 262144
 
 pub joinable : (change next : Change) → can_join change next ≡ true → CanJoin change next
 joinable change next e =
-    let parts = and_parts (change.node == next.node) (nat_le (length (operations change) + length (operations next)) 256) e in
-    record { node = eqb-true _ _ parts.0; few = leb-true _ _ parts.1 }
+    let parts = and_parts (change.node == next.node) (counts_fit change next && meanings_fit change next) e in
+    let fits = and_parts (counts_fit change next) (meanings_fit change next) parts.1 in
+    record { node = eqb-true _ _ parts.0; few = leb-true _ _ fits.0; meant = leb-true _ _ fits.1 }
 
 -- its lines are of the wider form
+second_has : (line : Line) → IsTrue (has_line First line) → IsTrue (has_line Second line)
+second_has (Operation op) h = (and_parts (not (names_code op)) (not (is_revival op)) h).1
+second_has (Run run) h = refl
+second_has (Removals run) h = h
+second_has (Revivals run) h = h
+
 wider_left : (form other : Form) (line : Line) → IsTrue (has_line form line) → IsTrue (has_line (wider form other) line)
 wider_left First First line h = h
-wider_left First Second line h = refl
-wider_left Second other line h = refl
+wider_left First Second line h = second_has line h
+wider_left First Third line h = refl
+wider_left Second First line h = h
+wider_left Second Second line h = h
+wider_left Second Third line h = refl
+wider_left Third other line h = refl
 
 wider_right : (form other : Form) (line : Line) → IsTrue (has_line other line) → IsTrue (has_line (wider form other) line)
 wider_right First other line h = h
-wider_right Second other line h = refl
+wider_right Second First line h = second_has line h
+wider_right Second Second line h = h
+wider_right Second Third line h = refl
+wider_right Third other line h = refl
 
 module _ (form other : Form) (peer : ℕ) where
   lines_left : (lines : List Line) → AllByRecursion (IsLine form peer) lines → AllByRecursion (IsLine (wider form other) peer) lines
@@ -69,39 +103,44 @@ both_is_change change next e h k =
     let count = both_count change next in
     let some = h.some in
     let few = c.few in
+    let both_mean = both_meant change next in
+    let meant = c.meant in
     record {
       named = h.named;
       known = h.known;
       some = omega (arith, length-append change.lines next.lines, some);
       few = omega (arith, count, few);
+      meant = omega (arith, both_mean, meant);
       lines = lines_both change.form next.form change.node change.lines next.lines h.lines (subst (λ (n : ℕ). AllByRecursion (IsLine next.form n) next.lines) (sym c.node) k.lines);
     }
 
--- ---- how many operations lines mean
+-- ---- how many operations lines are
 pub count_more : (lines : List Line) (line : Line) (i count own total : ℕ) → i < length lines → line ≡ get_or lines i line → own ≡ count_of line
-    → count + length (ops_of_lines (drop i lines)) ≡ total → (count + own) + length (ops_of_lines (drop (i + 1) lines)) ≡ total
+    → count + count_of_lines (drop i lines) ≡ total → (count + own) + count_of_lines (drop (i + 1) lines) ≡ total
 count_more lines line i count own total lt is counted so_far =
     let left : drop i lines ≡ line ∷ drop (i + 1) lines = rw (add-one, drop-cons lines i line lt, ← is) refl in
-    let both : length (ops_of_lines (drop i lines)) ≡ count_of line + length (ops_of_lines (drop (i + 1) lines)) =
-    ap (λ (l : List Line). length (ops_of_lines l)) left ∙ more_ops line (drop (i + 1) lines) in
+    let both : count_of_lines (drop i lines) ≡ count_of line + count_of_lines (drop (i + 1) lines) =
+    ap (λ (l : List Line). count_of_lines l) left ∙ more_count line (drop (i + 1) lines) in
     omega (arith, counted, so_far, both)
 
-pub count_done : (lines : List Line) (i count total : ℕ) → length lines ≤ i → count + length (ops_of_lines (drop i lines)) ≡ total → count ≡ total
+pub count_done : (lines : List Line) (i count total : ℕ) → length lines ≤ i → count + count_of_lines (drop i lines) ≡ total → count ≡ total
 count_done lines i count total le so_far =
-    let none : length (ops_of_lines (drop i lines)) ≡ 0 = ap (λ (l : List Line). length (ops_of_lines l)) (drop_all i lines le) ∙ no_ops in
+    let none : count_of_lines (drop i lines) ≡ 0 = ap (λ (l : List Line). count_of_lines l) (drop_all i lines le) ∙ no_count in
     omega (arith, none, so_far)
 
--- each line means an operation at least
+-- each line is an operation at least
 line_counts : (line : Line) → line_within line ≡ true → 1 ≤ count_of line
 line_counts (Operation op) h = omega arith
 line_counts (Run run) h = let l = run_limits run h in let s = l.some in omega arith
+line_counts (Removals run) h = omega arith
+line_counts (Revivals run) h = omega arith
 
-lines_count : (form : Form) (peer : ℕ) (lines : List Line) → AllByRecursion (IsLine form peer) lines → length lines ≤ length (ops_of_lines lines)
+lines_count : (form : Form) (peer : ℕ) (lines : List Line) → AllByRecursion (IsLine form peer) lines → length lines ≤ count_of_lines lines
 lines_count form peer [] h = omega arith
 lines_count form peer (line ∷ lines) h =
     let one = line_counts line h.0.within in
     let others = lines_count form peer lines h.1 in
-    let all = more_ops line lines in
+    let all = more_count line lines in
     omega arith
 
 pub few_lines : (change : Change) → IsChange change → length change.lines ≤ 256

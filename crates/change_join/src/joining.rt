@@ -12,8 +12,8 @@ use crate::joint::Joint;
 use change_ops::change::Change;
 use std::alloc::{AllocError, Global};
 
-/// The texts of the changes, each joined with those before it where they are of one peer and have at most 256
-/// operations together.
+/// The texts of the changes, each joined with those before it where they are of one peer and have together no more
+/// operations than a change may.
 pub fn joined_text(alloc: Global, changes: &[Change]) -> Result<String, AllocError>
     ensures { IfOk result (λ text. string_bytes text ≡ flat_map change_text (joined changes.now)) }
 {

@@ -1,8 +1,8 @@
 //! A change that is put together of several.
-ghost use Rattle.std.specs.Prelude.{◌≡◌, ◌≤◌, ◌++◌, List, ℕ, length, IfOk, OnOk, IsTrue};
+ghost use Rattle.std.specs.Prelude.{◌≡◌, ◌≤◌, ◌++◌, List, ℕ, IfOk, OnOk, IsTrue};
 ghost use Rattle.std.specs.String.{string_bytes};
-ghost use Rattle.change_ops.specs.Changes.{Change, IsChange, operations};
-ghost use Rattle.change_ops.specs.Lines.{ops_of_lines};
+ghost use Rattle.change_ops.specs.Changes.{Change, IsChange};
+ghost use Rattle.change_ops.specs.Lines.{count_of_lines};
 ghost use Rattle.change_ops.specs.Spelling.{lines_text, form_text, change_text};
 ghost use Rattle.change_ops.specs.Refusals.{Line as FirstLine};
 ghost use Rattle.change_join.specs.Joined.{wider, can_join, both_of};
@@ -13,23 +13,27 @@ use change_ops::line::{Form, Line};
 use change_ops::writing::write_change;
 use std::alloc::{AllocError, Global};
 
-/// The most operations of a change.
+/// The most operations of a change, of which a run of removals or of revivals is one.
 const MOST_OPERATIONS: usize = 256;
 
-/// The change of all lines of several: how many operations and lines it has, and the text of its lines.
+/// The most operations that a change means.
+const MOST_MEANT: usize = 262144;
+
+/// The change of all lines of several: how many operations it has and means, how many lines, and the text of these.
 #[derive(Drop)]
 pub(crate) struct Joint {
     form: Form,
     node: u16,
     operations: usize,
+    meant: usize,
     lines: usize,
     text: String,
 }
 
-/// How many operations the lines mean.
+/// How many of a change's 256 operations the lines are.
 fn count_of_lines(lines: &[Line]) -> usize
-    requires { length (ops_of_lines lines.now) ≤ 256 }
-    ensures { result ≡ length (ops_of_lines lines.now) }
+    requires { count_of_lines lines.now ≤ 256 }
+    ensures { result ≡ count_of_lines lines.now }
 {
     let mut count = 0;
     for line in lines {
@@ -40,7 +44,7 @@ fn count_of_lines(lines: &[Line]) -> usize
 
 /// How many operations a change has.
 fn count_of(change: &Change) -> usize
-    ensures value { result ≡ length (operations change.now) }
+    ensures value { result ≡ count_of_lines change.now.lines }
     ensures limit { result ≤ 256 }
 {
     count_of_lines(change.lines())
@@ -73,6 +77,7 @@ fn word_of(form: Form) -> &'static str
     match form {
         Form::First => "change",
         Form::Second => "change2",
+        Form::Third => "change3",
     }
 }
 
@@ -82,7 +87,11 @@ fn wider(one: Form, other: Form) -> Form
 {
     match one {
         Form::First => other,
-        Form::Second => Form::Second,
+        Form::Second => match other {
+            Form::First | Form::Second => Form::Second,
+            Form::Third => Form::Third,
+        },
+        Form::Third => Form::Third,
     }
 }
 
@@ -95,6 +104,7 @@ impl Joint {
             form: change.form(),
             node: change.node(),
             operations: count_of(change),
+            meant: change.operation_count(),
             lines: change.lines().len(),
             text: String::new(alloc),
         };
@@ -107,7 +117,9 @@ impl Joint {
         requires { (change : Change) × IsJoint change self.now }
         ensures { (change : Change) → IsJoint change self.now → result ≡ can_join change next.now }
     {
-        self.node == next.node() && self.operations + count_of(next) <= MOST_OPERATIONS
+        self.node == next.node()
+            && self.operations + count_of(next) <= MOST_OPERATIONS
+            && self.meant + next.operation_count() <= MOST_MEANT
     }
 
     /// Joins one more, behind the others.
@@ -118,6 +130,7 @@ impl Joint {
     {
         self.form = wider(self.form, next.form());
         self.operations += count_of(next);
+        self.meant += next.operation_count();
         self.lines += next.lines().len();
         write_lines(next, &mut self.text)
     }

@@ -5,15 +5,18 @@ use Rattle.std.specs.Fmt.{decimal}
 use Rattle.std.specs.List.{AllByRecursion}
 use Rattle.std.proofs.lemmas.Bool.{and_parts, and_from, leb-true, le-leb, eqb-true, eq-eqb}
 use Rattle.change_ops.specs.Ids.{is_node}
-use Rattle.change_ops.specs.Lines.{ops_of, ops_of_lines, count_of, first_id, line_within, line_has_characters}
+use Rattle.change_ops.specs.Lines.{ops_of, ops_of_lines, count_of, count_of_lines, first_id, line_within, line_has_characters, has_line}
+use Rattle.change_ops.specs.Rooms.{whole_room, line_fits, room_behind}
 use Rattle.change_ops.specs.Words.{split, number_in}
 use Rattle.change_ops.specs.Reading.{form_at, header_at, line_in, judged, line_verdict, Reads}
 use Rattle.change_ops.specs.Reading as reading
-use Rattle.change_ops.specs.Changes.{Change, IsLine, IsChange, OwnLines, Header, ◌>>=◌, Gives, lined, ended, limited_header, within_header, header_verdict, next_at, lines_at, change_at}
+use Rattle.change_ops.specs.Changes.{Change, operations, IsLine, IsChange, OwnLines, Header, ◌>>=◌, Gives, lined, ended, limited_header, within_header, header_verdict, next_at, lines_at, change_at}
 use Rattle.change_ops.specs.Spelling.{◌␣◌, line_text, lines_text, form_text, change_text, Spells, Answers, NoneBeginsAnother}
 use Rattle.change_ops.specs.declared.line.Form.{Form}
+use Rattle.change_ops.specs.declared.line.Form.TheVariants.{First, Second, Third}
 use Rattle.change_ops.specs.declared.line.Line.{Line}
-use Rattle.change_ops.specs.declared.line.Line.TheVariants.{Operation, Run}
+use Rattle.change_ops.specs.declared.line.Line.TheVariants.{Operation, Run, Removals, Revivals}
+use Rattle.change_ops.specs.declared.room.Room.{Room}
 use Rattle.change_ops.specs.declared.refusal.LineFault.{LineFault}
 use Rattle.change_ops.specs.declared.refusal.LineFault.TheVariants as why
 use Rattle.change_ops.specs.declared.refusal.ChangeError.{ChangeError}
@@ -22,7 +25,8 @@ use Rattle.change_ops.proofs.Grammar.{Lacks, bind_some, split_again, split_takes
 use Rattle.change_ops.proofs.Phrases.{lacks_joined, decimal_again, decimal_takes, decimal_lacks}
 use Rattle.change_ops.proofs.LineLaws.{both}
 use Rattle.change_ops.proofs.RunLaws.{run_limits}
-use Rattle.change_ops.proofs.SpelledLines.{ops_count, in_again, in_takes, line_takes, line_lacks}
+use Rattle.change_ops.proofs.RoomLaws.{more_count, no_count, more_ops, no_ops, fits_parts, fits_from}
+use Rattle.change_ops.proofs.SpelledLines.{inserts_count, in_again, in_takes, line_takes, line_lacks}
 use Rattle.change_ops.proofs.LineForms.{form_takes, form_again, form_lacks}
 
 abbrev pub Parts : Type 0
@@ -43,9 +47,9 @@ same_ok x y r e f = cc
 
 -- what a verdict says of the line that it accepts
 
-pub record Judged (peer room : ℕ) (line : Line) : Type 0 where
+pub record Judged (peer : ℕ) (room : Room) (line : Line) : Type 0 where
   pub within : line_within line ≡ true
-  pub fits : count_of line ≤ room
+  pub fits : line_fits room line ≡ true
   pub characters : line_has_characters line ≡ true
   pub own : (first_id line).node ≡ peer
 
@@ -59,24 +63,24 @@ pub lined_takes : {A : Type 0} (n : ℕ) (r : Result A LineFault) (x : A) → li
 lined_takes n (Ok y) x e = cc
 lined_takes n (Err fault) x e = absurd cc
 
-pub record Verdict (peer room : ℕ) (o : Option Line) (line : Line) : Type 0 where
+pub record Verdict (peer : ℕ) (room : Room) (o : Option Line) (line : Line) : Type 0 where
   pub read : o ≡ Some line
   pub judged : Judged peer room line
 
-pub verdict_takes : (peer room : ℕ) (read : Option Line) (line : Line) → line_verdict peer room read ≡ Ok line → Verdict peer room read line
+pub verdict_takes : (peer : ℕ) (room : Room) (read : Option Line) (line : Line) → line_verdict peer room read ≡ Ok line → Verdict peer room read line
 verdict_takes peer room None line e = absurd cc
 verdict_takes peer room (Some x) line e =
-    let c = choose (line_within x && leb (count_of x) room) (line_has_characters x) (eqb (first_id x).node peer) x line e in
-    let w = and_parts (line_within x) (leb (count_of x) room) c.0 in
-    let found : Judged peer room x = record { within = w.0; fits = leb-true _ _ w.1; characters = c.1; own = eqb-true _ _ c.2 } in
+    let c = choose (line_within x && line_fits room x) (line_has_characters x) (eqb (first_id x).node peer) x line e in
+    let w = and_parts (line_within x) (line_fits room x) c.0 in
+    let found : Judged peer room x = record { within = w.0; fits = w.1; characters = c.1; own = eqb-true _ _ c.2 } in
     subst (λ (y : Line). Verdict peer room (Some x) y) c.3 (record { read = refl; judged = found })
 
-pub verdict_fits : (peer room : ℕ) (read : Option Line) (line : Line) → Reads (Ok line) (line_verdict peer room read) → count_of line ≤ room
+pub verdict_fits : (peer : ℕ) (room : Room) (read : Option Line) (line : Line) → Reads (Ok line) (line_verdict peer room read) → line_fits room line ≡ true
 verdict_fits peer room read line (inl memory) = absurd cc
 verdict_fits peer room read line (inr same) = let v = verdict_takes peer room read line (sym same) in v.judged.fits
 
-verdict_again : (peer room : ℕ) (line : Line) → Judged peer room line → judged peer room line ≡ Ok line
-verdict_again peer room line h = rw (and_from (line_within line) (leb (count_of line) room) h.within (le-leb _ _ h.fits), h.characters, eq-eqb _ _ h.own) refl
+verdict_again : (peer : ℕ) (room : Room) (line : Line) → Judged peer room line → judged peer room line ≡ Ok line
+verdict_again peer room line h = rw (and_from (line_within line) (line_fits room line) h.within h.fits, h.characters, eq-eqb _ _ h.own) refl
 
 -- one line
 
@@ -86,18 +90,18 @@ ended_takes bytes parts e = go (split 10 bytes) refl e where
   go None f e = absurd cc
   go (Some x) f e = let same : x ≡ parts = cc in (split_takes 10 bytes parts.0 parts.1 (f ∙ ap (λ (y : Parts). Some y) same)).0
 
-next_again : (form : Form) (peer room n : ℕ) (line : Line) (rest : List ℕ) → IsLine form peer line → count_of line ≤ room → next_at form peer room n (line_text line ++ 10 ∷ rest) ≡ Ok (line, rest)
+next_again : (form : Form) (peer : ℕ) (room : Room) (n : ℕ) (line : Line) (rest : List ℕ) → IsLine form peer line → line_fits room line ≡ true → next_at form peer room n (line_text line ++ 10 ∷ rest) ≡ Ok (line, rest)
 unfolding next_at
 next_again form peer room n line rest h fits =
     let judged : Judged peer room line = record { within = h.within; fits = fits; characters = h.characters; own = h.own } in
     rw (split_again 10 (line_text line) rest (line_lacks line h.within h.characters), in_again form line h.within h.characters h.formed, verdict_again peer room line judged) refl
 
-pub record LineTaken (form : Form) (peer room : ℕ) (bytes : List ℕ) (x : One) : Type 0 where
+pub record LineTaken (form : Form) (peer : ℕ) (room : Room) (bytes : List ℕ) (x : One) : Type 0 where
   pub text : bytes ≡ line_text x.0 ++ 10 ∷ x.1
   pub line : IsLine form peer x.0
-  pub fits : count_of x.0 ≤ room
+  pub fits : line_fits room x.0 ≡ true
 
-pub next_takes : (form : Form) (peer room n : ℕ) (bytes : List ℕ) (x : One) → next_at form peer room n bytes ≡ Ok x → LineTaken form peer room bytes x
+pub next_takes : (form : Form) (peer : ℕ) (room : Room) (n : ℕ) (bytes : List ℕ) (x : One) → next_at form peer room n bytes ≡ Ok x → LineTaken form peer room bytes x
 unfolding next_at
 next_takes form peer room n bytes x e =
     let a = bind_ok (ended (split 10 bytes)) (λ parts. lined n (line_verdict peer room (line_in form parts.0)) >>= λ found. made found parts.1) x e in
@@ -116,59 +120,60 @@ next_takes form peer room n bytes x e =
 
 -- all lines
 
-pub record LinesTaken (form : Form) (peer room count : ℕ) (bytes : List ℕ) (x : Lines) : Type 0 where
+pub record LinesTaken (form : Form) (peer : ℕ) (room : Room) (count : ℕ) (bytes : List ℕ) (x : Lines) : Type 0 where
   pub whole : bytes ≡ lines_text x.0 ++ x.1
   pub lines : AllByRecursion (IsLine form peer) x.0
   pub counted : length x.0 ≡ count
-  pub few : length (ops_of_lines x.0) ≤ room
+  pub few : count_of_lines x.0 ≤ room.operations
+  pub meant : length (ops_of_lines x.0) ≤ room.meant
 
--- how many operations a line and those behind it mean
-pub more_ops : (line : Line) (lines : List Line) → length (ops_of_lines (line ∷ lines)) ≡ count_of line + length (ops_of_lines lines)
-unfolding ops_of_lines
-more_ops line lines = length-append (ops_of line) (ops_of_lines lines) ∙ ap (λ (k : ℕ). k + length (ops_of_lines lines)) (ops_count line)
-
-pub no_ops : length (ops_of_lines []) ≡ 0
-unfolding ops_of_lines
-no_ops = refl
-
-pub lines_taken : (form : Form) (peer room n count : ℕ) (bytes : List ℕ) (x : Lines) → lines_at form peer room n count bytes ≡ Ok x → LinesTaken form peer room count bytes x
+pub lines_taken : (form : Form) (peer : ℕ) (room : Room) (n count : ℕ) (bytes : List ℕ) (x : Lines) → lines_at form peer room n count bytes ≡ Ok x → LinesTaken form peer room count bytes x
 unfolding lines_at lines_text
 lines_taken form peer room n zero bytes x e =
     let read : Lines = ([], bytes) in
     let same : read ≡ x = cc in
     let none = no_ops in
-    let few : length (ops_of_lines []) ≤ room = omega arith in
-    let taken : LinesTaken form peer room 0 bytes read = record { whole = refl; lines = tt; counted = refl; few = few } in
+    let nothing = no_count in
+    let few : count_of_lines [] ≤ room.operations = omega arith in
+    let meant : length (ops_of_lines []) ≤ room.meant = omega arith in
+    let taken : LinesTaken form peer room 0 bytes read = record { whole = refl; lines = tt; counted = refl; few = few; meant = meant } in
     subst (LinesTaken form peer room 0 bytes) same taken
 lines_taken form peer room n (suc count) bytes x e =
-    let a = bind_ok (next_at form peer room n bytes) (λ first. lines_at form peer (room - count_of first.0) (n + 1) count first.1 >>= λ others. made first.0 others) x e in
-    let b = bind_ok (lines_at form peer (room - count_of a.0.0) (n + 1) count a.0.1) (λ others. made a.0.0 others) x a.2 in
+    let a = bind_ok (next_at form peer room n bytes) (λ first. lines_at form peer (room_behind room first.0) (n + 1) count first.1 >>= λ others. made first.0 others) x e in
+    let b = bind_ok (lines_at form peer (room_behind room a.0.0) (n + 1) count a.0.1) (λ others. made a.0.0 others) x a.2 in
     let first = next_takes form peer room n bytes a.0 a.1 in
-    let rest = lines_taken form peer (room - count_of a.0.0) (n + 1) count a.0.1 b.0 b.1 in
+    let rest = lines_taken form peer (room_behind room a.0.0) (n + 1) count a.0.1 b.0 b.1 in
     let read : Lines = (a.0.0 ∷ b.0.0, b.0.1) in
     let same : read ≡ x = same_ok read x (Ok read) refl b.2 in
     let text = first.text ∙ ap (λ (y : List ℕ). line_text a.0.0 ++ 10 ∷ y) rest.whole ∙ sym (append_assoc (line_text a.0.0) (10 ∷ lines_text b.0.0) b.0.1) in
-    let fits = first.fits in
-    let others = rest.few in
-    let all = more_ops a.0.0 b.0.0 in
-    let few : length (ops_of_lines (a.0.0 ∷ b.0.0)) ≤ room = omega arith in
-    let taken : LinesTaken form peer room (suc count) bytes read = record { whole = text; lines = (first.line, rest.lines); counted = ap suc rest.counted; few = few } in
+    let fits = fits_parts room a.0.0 first.fits in
+    let fits_count = fits.operations in
+    let others_count = rest.few in
+    let all_count = more_count a.0.0 b.0.0 in
+    let few : count_of_lines (a.0.0 ∷ b.0.0) ≤ room.operations = omega arith in
+    let fits_meant = fits.meant in
+    let others_meant = rest.meant in
+    let all_meant = more_ops a.0.0 b.0.0 in
+    let meant : length (ops_of_lines (a.0.0 ∷ b.0.0)) ≤ room.meant = omega arith in
+    let taken : LinesTaken form peer room (suc count) bytes read = record { whole = text; lines = (first.line, rest.lines); counted = ap suc rest.counted; few = few; meant = meant } in
     subst (LinesTaken form peer room (suc count) bytes) same taken
   where
     made : Line → Lines → Result Lines ChangeError
     made line others = Ok (line ∷ others.0, others.1)
 
-pub lines_own : (form : Form) (peer room n count : ℕ) (bytes : List ℕ) (x : Lines) → lines_at form peer room n count bytes ≡ Ok x → OwnLines form peer room count x.0
-lines_own form peer room n count bytes x e = let t = lines_taken form peer room n count bytes x e in record { counted = t.counted; few = t.few; lines = t.lines }
+pub lines_own : (form : Form) (peer : ℕ) (room : Room) (n count : ℕ) (bytes : List ℕ) (x : Lines) → lines_at form peer room n count bytes ≡ Ok x → OwnLines form peer room count x.0
+lines_own form peer room n count bytes x e = let t = lines_taken form peer room n count bytes x e in record { counted = t.counted; few = t.few; meant = t.meant; lines = t.lines }
 
-lines_again : (form : Form) (peer room n : ℕ) (lines : List Line) (rest : List ℕ) → AllByRecursion (IsLine form peer) lines → length (ops_of_lines lines) ≤ room → lines_at form peer room n (length lines) (lines_text lines ++ rest) ≡ Ok (lines, rest)
+lines_again : (form : Form) (peer : ℕ) (room : Room) (n : ℕ) (lines : List Line) (rest : List ℕ) → AllByRecursion (IsLine form peer) lines → count_of_lines lines ≤ room.operations → length (ops_of_lines lines) ≤ room.meant → lines_at form peer room n (length lines) (lines_text lines ++ rest) ≡ Ok (lines, rest)
 unfolding lines_at lines_text
-lines_again form peer room n [] rest h few = refl
-lines_again form peer room n (line ∷ lines) rest h few =
-    let all = more_ops line lines in
-    let fits : count_of line ≤ room = omega arith in
-    let left : length (ops_of_lines lines) ≤ room - count_of line = omega arith in
-    rw (append_assoc (line_text line) (10 ∷ lines_text lines) rest, next_again form peer room n line (lines_text lines ++ rest) h.0 fits, lines_again form peer (room - count_of line) (n + 1) lines rest h.1 left) refl
+lines_again form peer room n [] rest h few meant = refl
+lines_again form peer room n (line ∷ lines) rest h few meant =
+    let all_count = more_count line lines in
+    let all_meant = more_ops line lines in
+    let fits = fits_from room line (omega arith) (omega arith) in
+    let left_count : count_of_lines lines ≤ room.operations - count_of line = omega arith in
+    let left_meant : length (ops_of_lines lines) ≤ room.meant - length (ops_of line) = omega arith in
+    rw (append_assoc (line_text line) (10 ∷ lines_text lines) rest, next_again form peer room n line (lines_text lines ++ rest) h.0 fits, lines_again form peer (room_behind room line) (n + 1) lines rest h.1 left_count left_meant) refl
 
 -- the first line
 
@@ -197,17 +202,46 @@ pub record HeaderLimits (h : Header) : Type 0 where
 header_within : (h : Header) → HeaderLimits h → limited_header h ≡ Some h
 header_within h l = rw (le-leb 1 h.1 l.named, le-leb h.1 65535 l.known, le-leb 1 h.2 l.some, le-leb h.2 256 l.few) refl
 
--- each line means an operation at least
+-- each line is an operation at least
 line_counts : (line : Line) → line_within line ≡ true → 1 ≤ count_of line
 line_counts (Operation op) h = omega arith
 line_counts (Run run) h = let l = run_limits run h in let s = l.some in omega arith
+line_counts (Removals run) h = omega arith
+line_counts (Revivals run) h = omega arith
 
-lines_count : (form : Form) (peer : ℕ) (lines : List Line) → AllByRecursion (IsLine form peer) lines → length lines ≤ length (ops_of_lines lines)
-lines_count form peer [] h = omega arith
+lines_count : (form : Form) (peer : ℕ) (lines : List Line) → AllByRecursion (IsLine form peer) lines → length lines ≤ count_of_lines lines
+lines_count form peer [] h = let none = no_count in omega arith
 lines_count form peer (line ∷ lines) h =
     let one = line_counts line h.0.within in
     let others = lines_count form peer lines h.1 in
-    let all = more_ops line lines in
+    let all = more_count line lines in
+    omega arith
+
+-- in the first two forms each line means as many operations as it is
+no_more : (form : Form) (line : Line) → (form ≡ Third → ⊥) → has_line form line ≡ true → length (ops_of line) ≡ count_of line
+no_more form (Operation op) older h = refl
+no_more form (Run run) older h = inserts_count run.characters run.id run.parent
+no_more First (Removals run) older h = absurd cc
+no_more First (Revivals run) older h = absurd cc
+no_more Second (Removals run) older h = absurd cc
+no_more Second (Revivals run) older h = absurd cc
+no_more Third (Removals run) older h = absurd (older refl)
+no_more Third (Revivals run) older h = absurd (older refl)
+
+pub older_lines : (form : Form) (peer : ℕ) (lines : List Line) → (form ≡ Third → ⊥) → AllByRecursion (IsLine form peer) lines → length (ops_of_lines lines) ≡ count_of_lines lines
+older_lines form peer [] older h = let none = no_ops in let nothing = no_count in omega arith
+older_lines form peer (line ∷ lines) older h =
+    let one = no_more form line older h.0.formed in
+    let others = older_lines form peer lines older h.1 in
+    let all_count = more_count line lines in
+    let all_meant = more_ops line lines in
+    omega arith
+
+-- so a change of them means at most 256
+pub few_operations : (change : Change) → (change.form ≡ Third → ⊥) → IsChange change → length (operations change) ≤ 256
+few_operations change older h =
+    let same = older_lines change.form change.node change.lines older h.lines in
+    let few = h.few in
     omega arith
 
 pub change_again : (change : Change) (rest : List ℕ) → IsChange change → change_at (change_text change ++ rest) ≡ Ok (change, rest)
@@ -221,7 +255,7 @@ change_again change rest h =
     let limits : HeaderLimits (change.form, change.node, count) = record { named = h.named; known = h.known; some = h.some; few = few } in
     let grouped : (line ++ 10 ∷ lines_text change.lines) ++ rest ≡ line ++ 10 ∷ (lines_text change.lines ++ rest) = append_assoc line (10 ∷ lines_text change.lines) rest in
     let parts = split_again 10 line (lines_text change.lines ++ rest) (header_lacks change.form change.node count h.named h.known h.some few) in
-    rw (grouped, parts, header_again change.form change.node count h.named h.known h.some few, header_within (change.form, change.node, count) limits, lines_again change.form change.node 256 2 change.lines rest h.lines h.few) refl
+    rw (grouped, parts, header_again change.form change.node count h.named h.known h.some few, header_within (change.form, change.node, count) limits, lines_again change.form change.node whole_room 2 change.lines rest h.lines h.few h.meant) refl
 
 record HeaderTaken (h x : Header) : Type 0 where
   same : h ≡ x
@@ -285,19 +319,19 @@ Taken text x = Spells text x.0 x.1
 pub change_takes : (text : List ℕ) (x : Pair) → change_at text ≡ Ok x → Spells text x.0 x.1
 unfolding change_at change_text
 change_takes text x e =
-    let a = bind_ok (ended (split 10 text)) (λ parts. lined 1 (header_verdict (header_at parts.0)) >>= λ h. lines_at h.0 h.1 256 2 h.2 parts.1 >>= λ found. edited h found) x e in
-    let b = bind_ok (lined 1 (header_verdict (header_at a.0.0))) (λ h. lines_at h.0 h.1 256 2 h.2 a.0.1 >>= λ found. edited h found) x a.2 in
+    let a = bind_ok (ended (split 10 text)) (λ parts. lined 1 (header_verdict (header_at parts.0)) >>= λ h. lines_at h.0 h.1 whole_room 2 h.2 parts.1 >>= λ found. edited h found) x e in
+    let b = bind_ok (lined 1 (header_verdict (header_at a.0.0))) (λ h. lines_at h.0 h.1 whole_room 2 h.2 a.0.1 >>= λ found. edited h found) x a.2 in
     let h = b.0 in
-    let d = bind_ok (lines_at h.0 h.1 256 2 h.2 a.0.1) (λ found. edited h found) x b.2 in
+    let d = bind_ok (lines_at h.0 h.1 whole_room 2 h.2 a.0.1) (λ found. edited h found) x b.2 in
     let change : Change = record { form = h.0; node = h.1; lines = d.0.0 } in
     let read : Pair = (change, d.0.1) in
     let same : read ≡ x = same_ok read x (Ok read) refl d.2 in
     let v = verdict_header (header_at a.0.0) h (lined_takes 1 (header_verdict (header_at a.0.0)) h b.1) in
-    let o = lines_taken h.0 h.1 256 2 h.2 a.0.1 d.0 d.1 in
+    let o = lines_taken h.0 h.1 whole_room 2 h.2 a.0.1 d.0 d.1 in
     let first : a.0.0 ≡ header h.0 h.1 (length d.0.0) = header_takes a.0.0 h v.limits v.read ∙ ap (λ (k : ℕ). header h.0 h.1 k) (sym o.counted) in
     let joined : a.0.0 ++ 10 ∷ a.0.1 ≡ header h.0 h.1 (length d.0.0) ++ 10 ∷ (lines_text d.0.0 ++ d.0.1) = (λ i. first i ++ 10 ∷ o.whole i) in
     let whole = ended_takes text a.0 a.1 ∙ joined ∙ sym (append_assoc (header h.0 h.1 (length d.0.0)) (10 ∷ lines_text d.0.0) d.0.1) in
-    let limits : IsChange change = record { named = v.limits.named; known = v.limits.known; some = rw (← o.counted) at v.limits.some; few = o.few; lines = o.lines } in
+    let limits : IsChange change = record { named = v.limits.named; known = v.limits.known; some = rw (← o.counted) at v.limits.some; few = o.few; meant = o.meant; lines = o.lines } in
     subst (Taken text) same (limits, whole)
   where
     edited : Header → Lines → Result Pair ChangeError

@@ -3,9 +3,10 @@ use Rattle.std.proofs.Common.{◌≡◌, ℕ, ◌≤◌, Bool, true, false, List
 use Rattle.std.specs.Prelude.{not, codes}
 use Rattle.std.specs.Fmt.{decimal}
 use Rattle.std.specs.List.{AllByRecursion}
-use Rattle.std.proofs.lemmas.Bool.{false≢true}
+use Rattle.std.proofs.lemmas.Bool.{false≢true, and_parts, and_from}
 use Rattle.std.proofs.lemmas.List.{length-map}
-use Rattle.change_ops.specs.Lines.{ops_of_lines, names_code}
+use Rattle.change_ops.specs.Lines.{ops_of_lines, count_of_lines, names_code}
+use Rattle.change_ops.specs.Operations.{is_revival}
 use Rattle.change_ops.specs.Changes.{IsLine, IsChange}
 use Rattle.change_ops.specs.Spelling.{◌␣◌, op_text, lines_text, change_text}
 use Rattle.change_ops.specs.FirstForm.{ops_text, spelled_out, IsPlainOp, ArePlainOps, FirstFormIsPlain}
@@ -13,7 +14,7 @@ use Rattle.change_ops.specs.declared.operation.Op.{Op}
 use Rattle.change_ops.specs.declared.line.Form.{Form}
 use Rattle.change_ops.specs.declared.line.Form.TheVariants.{First}
 use Rattle.change_ops.specs.declared.line.Line.{Line}
-use Rattle.change_ops.specs.declared.line.Line.TheVariants.{Operation, Run}
+use Rattle.change_ops.specs.declared.line.Line.TheVariants.{Operation, Run, Removals, Revivals}
 
 not_true : (b : Bool) → not b ≡ true → b ≡ false
 not_true true h = absurd (false≢true h)
@@ -29,20 +30,30 @@ unfolding ops_of_lines
 lines_are_ops node [] h = (tt, refl)
 lines_are_ops node (Operation op ∷ lines) h =
     let rest = lines_are_ops node lines h.1 in
-    let one : IsPlainOp node op = record { own = h.0.own; within = h.0.within; character = h.0.characters; other = not_true (names_code op) h.0.formed } in
+    let formed = and_parts (not (names_code op)) (not (is_revival op)) h.0.formed in
+    let one : IsPlainOp node op = record { own = h.0.own; within = h.0.within; character = h.0.characters; other = not_true (names_code op) formed.0; kept = not_true (is_revival op) formed.1 } in
     ((one, rest.0), ap (λ (ls : List Line). Operation op ∷ ls) rest.1)
 lines_are_ops node (Run run ∷ lines) h = absurd (false≢true h.0.formed)
+lines_are_ops node (Removals run ∷ lines) h = absurd (false≢true h.0.formed)
+lines_are_ops node (Revivals run ∷ lines) h = absurd (false≢true h.0.formed)
 
 pub ops_are_lines : (node : ℕ) (ops : List Op) → AllByRecursion (IsPlainOp node) ops → AllByRecursion (IsLine First node) (map Operation ops)
 ops_are_lines node [] h = tt
 ops_are_lines node (op ∷ ops) h =
-    let one : IsLine First node (Operation op) = record { own = h.0.own; within = h.0.within; characters = h.0.character; formed = not_false (names_code op) h.0.other } in
+    let formed = and_from (not (names_code op)) (not (is_revival op)) (not_false (names_code op) h.0.other) (not_false (is_revival op) h.0.kept) in
+    let one : IsLine First node (Operation op) = record { own = h.0.own; within = h.0.within; characters = h.0.character; formed = formed } in
     (one, ops_are_lines node ops h.1)
 
 pub ops_again : (ops : List Op) → ops_of_lines (map Operation ops) ≡ ops
 unfolding ops_of_lines
 ops_again [] = refl
 ops_again (op ∷ ops) = ap (λ (os : List Op). op ∷ os) (ops_again ops)
+
+-- each of them is one of the 256
+counted : (ops : List Op) → count_of_lines (map Operation ops) ≡ length ops
+unfolding count_of_lines
+counted [] = refl
+counted (op ∷ ops) = let others = counted ops in omega arith
 
 spelled : (ops : List Op) → lines_text (map Operation ops) ≡ ops_text ops
 unfolding lines_text ops_text
@@ -56,14 +67,21 @@ each form node lines h is =
     let l = lines_are_ops node lines all in
     let same : length lines ≡ length (ops_of_lines lines) = ap length l.1 ∙ length-map (ops_of_lines lines) Operation in
     let some : 1 ≤ length (ops_of_lines lines) = omega (arith, h.some) in
-    (record { named = h.named; known = h.known; some = some; few = h.few; each = l.0 }, (λ i. record { form = is i; node = node; lines = l.1 i }))
+    let count : count_of_lines lines ≡ length (ops_of_lines lines) = ap count_of_lines l.1 ∙ counted (ops_of_lines lines) in
+    let all_few = h.few in
+    let few : length (ops_of_lines lines) ≤ 256 = omega arith in
+    (record { named = h.named; known = h.known; some = some; few = few; each = l.0 }, (λ i. record { form = is i; node = node; lines = l.1 i }))
 
 all : (node : ℕ) (ops : List Op) → ArePlainOps node ops → IsChange (spelled_out node ops)
 all node ops h =
     let same = ops_again ops in
     let long : length (map Operation ops) ≡ length ops = length-map ops Operation in
     let some : 1 ≤ length (map Operation ops) = omega (arith, h.some) in
-    record { named = h.named; known = h.known; some = some; few = subst (λ (os : List Op). length os ≤ 256) (sym same) h.few; lines = ops_are_lines node ops h.each }
+    let count = counted ops in
+    let all_few = h.few in
+    let few : count_of_lines (map Operation ops) ≤ 256 = omega arith in
+    let small : length ops ≤ 262144 = omega arith in
+    record { named = h.named; known = h.known; some = some; few = few; meant = subst (λ (os : List Op). length os ≤ 262144) (sym same) small; lines = ops_are_lines node ops h.each }
 
 text : (node : ℕ) (ops : List Op) → change_text (spelled_out node ops) ≡ (codes "change" ␣ decimal node ␣ decimal (length ops)) ++ 10 ∷ ops_text ops
 unfolding change_text

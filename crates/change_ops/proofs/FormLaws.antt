@@ -9,7 +9,7 @@ use Rattle.change_ops.specs.Ids.{OpId}
 use Rattle.change_ops.specs.Attributes.{is_link_byte}
 use Rattle.change_ops.specs.Operations.{key_of}
 use Rattle.change_ops.specs.Words.{split, digit_of, digits_after, number_in}
-use Rattle.change_ops.specs.Reading.{◌>>=◌, id_at, hex_at, parent_at, beside, anchor_at, anchors_at, comment_at, key_at, color_at, link_at, bare, value_at, attribute_at, insert_at, remove_at, marked_at, mark_at, unmarked_at, unmark_at, op_at}
+use Rattle.change_ops.specs.Reading.{◌>>=◌, id_at, hex_at, parent_at, beside, anchor_at, anchors_at, comment_at, key_at, color_at, link_at, bare, value_at, attribute_at, insert_at, remove_at, marked_at, mark_at, unmarked_at, unmark_at, revive_at, op_at}
 use Rattle.change_ops.specs.Spelling.{◌␣◌}
 use Rattle.change_ops.specs.Forms.{Numeral, Joined, ◌⎵◌, Word, IdForm, ParentForm, CodeForm, SignedId, AnchorForm, KeyForm, LinkForm, ColorForm, ValueForm, OpForm}
 use Rattle.change_ops.specs.declared.attribute.Key.{Key}
@@ -19,7 +19,7 @@ use Rattle.change_ops.specs.declared.attribute.Attribute.TheVariants as attribut
 use Rattle.change_ops.specs.declared.operation.Anchor.{Anchor}
 use Rattle.change_ops.specs.declared.operation.Anchor.TheVariants.{TextStart, BeforeCharacter, AfterCharacter, TextEnd}
 use Rattle.change_ops.specs.declared.operation.Op.{Op}
-use Rattle.change_ops.specs.declared.operation.Op.TheVariants.{Insert, Remove, AddMark, RemoveMark}
+use Rattle.change_ops.specs.declared.operation.Op.TheVariants.{Insert, Remove, AddMark, RemoveMark, Revive}
 use Rattle.change_ops.proofs.Grammar.{Lacks, bind_some, split_again, split_takes, number_lacks, are_digits, no_digit}
 use Rattle.change_ops.proofs.Phrases.{lacks_cons, lacks_joined, same_bytes, other_word, no_dash, before_again, after_again}
 use Rattle.change_ops.proofs.Keys.{lacks_all, lacks_printed, no_digit_below, above}
@@ -362,8 +362,8 @@ insert_read fields id parent character j =
       code_read k.second character k.after,
     ) refl
 
-abbrev RemoveForm : OpId → OpId → List ℕ → Type 0
-RemoveForm id target = IdForm id ⎵ IdForm target
+abbrev IdsForm : OpId → OpId → List ℕ → Type 0
+IdsForm id named = IdForm id ⎵ IdForm named
 
 remove_form : (line fields : List ℕ) (op : Op) → line ≡ codes "d" ␣ fields → remove_at fields ≡ Some op → OpForm op line
 unfolding remove_at
@@ -372,11 +372,11 @@ remove_form line fields op text e =
     let b = bind_some (id_at a.0.0) (λ id. id_at a.0.1 >>= λ target. Some (Remove id target)) op a.2 in
     let c = bind_some (id_at a.0.1) (λ target. Some (Remove b.0 target)) op b.2 in
     let same : Remove b.0 c.0 ≡ op = cc (c.2) in
-    let behind : RemoveForm b.0 c.0 fields = record { first = a.0.0; second = a.0.1; whole = (split_takes 32 fields a.0.0 a.0.1 a.1).0; before = id_form a.0.0 b.0 b.1; after = id_form a.0.1 c.0 c.1 } in
+    let behind : IdsForm b.0 c.0 fields = record { first = a.0.0; second = a.0.1; whole = (split_takes 32 fields a.0.0 a.0.1 a.1).0; before = id_form a.0.0 b.0 b.1; after = id_form a.0.1 c.0 c.1 } in
     let form : OpForm (Remove b.0 c.0) line = record { first = codes "d"; second = fields; whole = text; before = refl; after = behind } in
     subst (λ (x : Op). OpForm x line) same form
 
-remove_read : (fields : List ℕ) (id target : OpId) → RemoveForm id target fields → remove_at fields ≡ Some (Remove id target)
+remove_read : (fields : List ℕ) (id target : OpId) → IdsForm id target fields → remove_at fields ≡ Some (Remove id target)
 unfolding remove_at
 remove_read fields id target j =
     rw (joined_again 32 fields j (id_lacks 32 id j.first (omega arith) j.before), id_read j.first id j.before, id_read j.second target j.after) refl
@@ -466,26 +466,43 @@ unfolding unmark_at
 unmark_read fields id unmarked j =
     rw (joined_again 32 fields j (id_lacks 32 id j.first (omega arith) j.before), id_read j.first id j.before, unmarked_read j.second unmarked j.after) refl
 
+revive_form : (line fields : List ℕ) (op : Op) → line ≡ codes "v" ␣ fields → revive_at fields ≡ Some op → OpForm op line
+unfolding revive_at
+revive_form line fields op text e =
+    let a = bind_some (split 32 fields) (λ first. id_at first.0 >>= λ id. id_at first.1 >>= λ removal. Some (Revive id removal)) op e in
+    let b = bind_some (id_at a.0.0) (λ id. id_at a.0.1 >>= λ removal. Some (Revive id removal)) op a.2 in
+    let c = bind_some (id_at a.0.1) (λ removal. Some (Revive b.0 removal)) op b.2 in
+    let same : Revive b.0 c.0 ≡ op = cc (c.2) in
+    let behind : IdsForm b.0 c.0 fields = record { first = a.0.0; second = a.0.1; whole = (split_takes 32 fields a.0.0 a.0.1 a.1).0; before = id_form a.0.0 b.0 b.1; after = id_form a.0.1 c.0 c.1 } in
+    let form : OpForm (Revive b.0 c.0) line = record { first = codes "v"; second = fields; whole = text; before = refl; after = behind } in
+    subst (λ (x : Op). OpForm x line) same form
+
+revive_read : (fields : List ℕ) (id removal : OpId) → IdsForm id removal fields → revive_at fields ≡ Some (Revive id removal)
+unfolding revive_at
+revive_read fields id removal j =
+    rw (joined_again 32 fields j (id_lacks 32 id j.first (omega arith) j.before), id_read j.first id j.before, id_read j.second removal j.after) refl
+
 -- whole lines
 
 pub op_form : (line : List ℕ) (op : Op) → op_at line ≡ Some op → OpForm op line
 unfolding op_at
 op_form line op e =
-    let a = bind_some (split 32 line) (λ first. if bytes_eq first.0 (codes "i") then insert_at first.1 else if bytes_eq first.0 (codes "d") then remove_at first.1 else if bytes_eq first.0 (codes "m") then mark_at first.1 else if bytes_eq first.0 (codes "u") then unmark_at first.1 else None) op e in
+    let a = bind_some (split 32 line) (λ first. if bytes_eq first.0 (codes "i") then insert_at first.1 else if bytes_eq first.0 (codes "d") then remove_at first.1 else if bytes_eq first.0 (codes "m") then mark_at first.1 else if bytes_eq first.0 (codes "u") then unmark_at first.1 else if bytes_eq first.0 (codes "v") then revive_at first.1 else None) op e in
     kinds a.0.0 a.0.1 (split_takes 32 line a.0.0 a.0.1 a.1).0 a.2
   where
-    kinds : (name fields : List ℕ) → line ≡ name ␣ fields → (if bytes_eq name (codes "i") then insert_at fields else if bytes_eq name (codes "d") then remove_at fields else if bytes_eq name (codes "m") then mark_at fields else if bytes_eq name (codes "u") then unmark_at fields else None) ≡ Some op → OpForm op line
-    kinds name fields whole e = go (bytes_eq name (codes "i")) (bytes_eq name (codes "d")) (bytes_eq name (codes "m")) (bytes_eq name (codes "u")) refl refl refl refl e where
+    kinds : (name fields : List ℕ) → line ≡ name ␣ fields → (if bytes_eq name (codes "i") then insert_at fields else if bytes_eq name (codes "d") then remove_at fields else if bytes_eq name (codes "m") then mark_at fields else if bytes_eq name (codes "u") then unmark_at fields else if bytes_eq name (codes "v") then revive_at fields else None) ≡ Some op → OpForm op line
+    kinds name fields whole e = go (bytes_eq name (codes "i")) (bytes_eq name (codes "d")) (bytes_eq name (codes "m")) (bytes_eq name (codes "u")) (bytes_eq name (codes "v")) refl refl refl refl refl e where
       named : (word : List ℕ) → bytes_eq name word ≡ true → line ≡ word ␣ fields
       named word f = whole ∙ ap (λ (x : List ℕ). x ␣ fields) (same_bytes name word f)
 
-      go : (a b c d : Bool) → bytes_eq name (codes "i") ≡ a → bytes_eq name (codes "d") ≡ b → bytes_eq name (codes "m") ≡ c → bytes_eq name (codes "u") ≡ d
-          → cond a (insert_at fields) (cond b (remove_at fields) (cond c (mark_at fields) (cond d (unmark_at fields) None))) ≡ Some op → OpForm op line
-      go true b c d f1 f2 f3 f4 e = insert_form line fields op (named (codes "i") f1) e
-      go false true c d f1 f2 f3 f4 e = remove_form line fields op (named (codes "d") f2) e
-      go false false true d f1 f2 f3 f4 e = mark_form line fields op (named (codes "m") f3) e
-      go false false false true f1 f2 f3 f4 e = unmark_form line fields op (named (codes "u") f4) e
-      go false false false false f1 f2 f3 f4 e = absurd cc
+      go : (a b c d k : Bool) → bytes_eq name (codes "i") ≡ a → bytes_eq name (codes "d") ≡ b → bytes_eq name (codes "m") ≡ c → bytes_eq name (codes "u") ≡ d → bytes_eq name (codes "v") ≡ k
+          → cond a (insert_at fields) (cond b (remove_at fields) (cond c (mark_at fields) (cond d (unmark_at fields) (cond k (revive_at fields) None)))) ≡ Some op → OpForm op line
+      go true b c d k f1 f2 f3 f4 f5 e = insert_form line fields op (named (codes "i") f1) e
+      go false true c d k f1 f2 f3 f4 f5 e = remove_form line fields op (named (codes "d") f2) e
+      go false false true d k f1 f2 f3 f4 f5 e = mark_form line fields op (named (codes "m") f3) e
+      go false false false true k f1 f2 f3 f4 f5 e = unmark_form line fields op (named (codes "u") f4) e
+      go false false false false true f1 f2 f3 f4 f5 e = revive_form line fields op (named (codes "v") f5) e
+      go false false false false false f1 f2 f3 f4 f5 e = absurd cc
 
 -- the first word is of one letter
 pub lettered : (b : ℕ) (line : List ℕ) {Rest : List ℕ → Type 0} (j : Joined 32 (Word (b ∷ [])) Rest line) → eqb b 32 ≡ false → split 32 line ≡ Some (b ∷ [], j.second)
@@ -497,3 +514,4 @@ op_read line (Insert id parent character) j = rw (lettered 105 line j refl, inse
 op_read line (Remove id target) j = rw (lettered 100 line j refl, remove_read j.second id target j.after) refl
 op_read line (AddMark id attribute start end) j = rw (lettered 109 line j refl, mark_read j.second id (attribute, (start, end)) j.after) refl
 op_read line (RemoveMark id key start end) j = rw (lettered 117 line j refl, unmark_read j.second id (key, (start, end)) j.after) refl
+op_read line (Revive id removal) j = rw (lettered 118 line j refl, revive_read j.second id removal j.after) refl

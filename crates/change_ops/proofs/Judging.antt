@@ -6,7 +6,7 @@ use Rattle.change_ops.specs.Ids.{OpId, within_limits, is_character}
 use Rattle.change_ops.specs.Limits.{parent_within, anchors_within, key_within, attribute_within, op_within, has_character}
 use Rattle.change_ops.specs.Attributes.{is_comment_number}
 use Rattle.change_ops.specs.Words.{split}
-use Rattle.change_ops.specs.Reading.{◌>>=◌, id_at, parent_at, hex_at, key_at, comment_at, value_at, attribute_at, bare, anchors_at, insert_at, remove_at, marked_at, mark_at, unmarked_at, unmark_at, op_verdict, owned, within, encoded, unvalued, both, Reads}
+use Rattle.change_ops.specs.Reading.{◌>>=◌, id_at, parent_at, hex_at, key_at, comment_at, value_at, attribute_at, bare, anchors_at, insert_at, remove_at, marked_at, mark_at, unmarked_at, unmark_at, revive_at, op_verdict, owned, within, encoded, unvalued, both, Reads}
 use Rattle.change_ops.specs.declared.refusal.LineFault.{LineFault}
 use Rattle.change_ops.specs.declared.refusal.LineFault.TheVariants.{BadLine, Limit, CharRefused, OutOfMemory}
 use Rattle.change_ops.specs.declared.attribute.Attribute.{Attribute}
@@ -15,7 +15,7 @@ use Rattle.change_ops.specs.declared.attribute.Key.{Key}
 use Rattle.change_ops.specs.declared.attribute.Key.TheVariants as key
 use Rattle.change_ops.specs.declared.operation.Anchor.{Anchor}
 use Rattle.change_ops.specs.declared.operation.Op.{Op}
-use Rattle.change_ops.specs.declared.operation.Op.TheVariants.{Insert, Remove, AddMark, RemoveMark}
+use Rattle.change_ops.specs.declared.operation.Op.TheVariants.{Insert, Remove, AddMark, RemoveMark, Revive}
 
 -- what is made of two parts that were read
 abbrev pub made : {A B : Type 0} → Result A LineFault → (A → Result B LineFault) → Result B LineFault
@@ -86,14 +86,15 @@ and_comm true false = refl
 and_comm false true = refl
 and_comm false false = refl
 
-pub remove_judged : (peer : ℕ) (id target : Option OpId)
-    → op_verdict peer (id >>= λ i. target >>= λ t. Some (Remove i t)) ≡ made (both (within within_limits id) (within within_limits target)) (λ x. owned peer (Remove x.0 x.1))
-remove_judged peer id target =
-    rw within_both (go id target) where
-      go : (id target : Option OpId) → op_verdict peer (id >>= λ i. target >>= λ t. Some (Remove i t)) ≡ made (within (λ (x : OpId × OpId). within_limits x.0 && within_limits x.1) (id >>= λ x. target >>= λ y. Some (x, y))) (λ x. owned peer (Remove x.0 x.1))
-      go None target = refl
+-- an id and the id that it names: of what a removal and the revival of one are made
+pub ids_judged : (peer : ℕ) (op : OpId → OpId → Op) (id named : Option OpId) → ((i n : OpId) → op_within (op i n) ≡ (within_limits i && within_limits n)) → ((i n : OpId) → has_character (op i n) ≡ true)
+    → op_verdict peer (id >>= λ i. named >>= λ n. Some (op i n)) ≡ made (both (within within_limits id) (within within_limits named)) (λ x. owned peer (op x.0 x.1))
+ids_judged peer op id named limits code =
+    rw within_both (go id named) where
+      go : (id named : Option OpId) → op_verdict peer (id >>= λ i. named >>= λ n. Some (op i n)) ≡ made (within (λ (x : OpId × OpId). within_limits x.0 && within_limits x.1) (id >>= λ x. named >>= λ y. Some (x, y))) (λ x. owned peer (op x.0 x.1))
+      go None named = refl
       go (Some i) None = refl
-      go (Some i) (Some t) = within_made peer (λ (x : OpId × OpId). within_limits x.0 && within_limits x.1) (λ x. Remove x.0 x.1) (Some (i, t)) (λ x. refl) (λ x. refl)
+      go (Some i) (Some n) = within_made peer (λ (x : OpId × OpId). within_limits x.0 && within_limits x.1) (λ x. op x.0 x.1) (Some (i, n)) (λ x. limits x.0 x.1) (λ x. code x.0 x.1)
 
 -- a value and its two anchors, and then the id: of what a mark and the removal of one are made
 pub marks_judged : {A : Type 0} (peer : ℕ) (t : A → Bool) (op : OpId → A → Anchor × Anchor → Op) (id : Option OpId) (value : Option A) (anchors : Option (Anchor × Anchor))
@@ -119,7 +120,12 @@ insert_line peer fields own rest parent code read e f same = rw (e, f, same) (in
 pub remove_line : (peer : ℕ) (fields own target : List ℕ) (read : Result (OpId × OpId) LineFault) → split 32 fields ≡ Some (own, target)
     → read ≡ both (within within_limits (id_at own)) (within within_limits (id_at target)) → op_verdict peer (remove_at fields) ≡ made read (λ x. owned peer (Remove x.0 x.1))
 unfolding remove_at
-remove_line peer fields own target read e same = rw (e, same) (remove_judged peer (id_at own) (id_at target))
+remove_line peer fields own target read e same = rw (e, same) (ids_judged peer Remove (id_at own) (id_at target) (λ i n. refl) (λ i n. refl))
+
+pub revive_line : (peer : ℕ) (fields own removal : List ℕ) (read : Result (OpId × OpId) LineFault) → split 32 fields ≡ Some (own, removal)
+    → read ≡ both (within within_limits (id_at own)) (within within_limits (id_at removal)) → op_verdict peer (revive_at fields) ≡ made read (λ x. owned peer (Revive x.0 x.1))
+unfolding revive_at
+revive_line peer fields own removal read e same = rw (e, same) (ids_judged peer Revive (id_at own) (id_at removal) (λ i n. refl) (λ i n. refl))
 
 pub unmark_line : (peer : ℕ) (fields own rest name anchors : List ℕ) (read : Result ((Key × (Anchor × Anchor)) × OpId) LineFault) → split 32 fields ≡ Some (own, rest) → split 32 rest ≡ Some (name, anchors)
     → read ≡ both (both (within key_within (key_at name)) (within anchors_within (anchors_at anchors))) (within within_limits (id_at own))

@@ -11,6 +11,8 @@ pub mod Phrases
 pub mod Keys
 pub mod LineLaws
 pub mod RunLaws
+pub mod RoomLaws
+pub mod IdRunLaws
 pub mod SpelledLines
 pub mod ChangeLaws
 pub mod Appending
@@ -21,5 +23,7 @@ pub mod RefusalLaws
 pub mod FirstForms
 pub mod CodeLines
 pub mod RunInserts
+pub mod IdRunOps
+pub mod IdRunReading
 pub mod CodeLoops
 pub mod RunReading

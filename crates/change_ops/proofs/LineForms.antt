@@ -1,24 +1,27 @@
 -- A line is read as a run or an operation just where it has the form of it, and a first line as what it has the form of.
 use Rattle.std.proofs.Common.{◌≡◌, ℕ, zero, suc, ◌<◌, Bool, true, false, cond, List, [], ◌∷◌, ◌++◌, length, Option, Some, None, refl, sym, ap, subst, ◌∙◌, arith}
-use Rattle.std.specs.Prelude.{codes, if◌then◌else◌}
+use Rattle.std.specs.Prelude.{◌&&◌, codes}
 use Rattle.std.specs.Str.{bytes_eq}
+use Rattle.std.proofs.lemmas.Bool.{and_parts}
 use Rattle.change_ops.specs.Ids.{OpId}
 use Rattle.change_ops.specs.Words.{split, number_in}
 use Rattle.change_ops.specs.Runs.{Run}
-use Rattle.change_ops.specs.Reading.{◌>>=◌, id_at, hex_at, parent_at, characters_at, counted_at, run_parts, run_at, op_at, line_at, line_in, form_at, header_at}
+use Rattle.change_ops.specs.IdRuns.{IdRun}
+use Rattle.change_ops.specs.Reading.{◌>>=◌, id_at, hex_at, parent_at, characters_at, counted_at, run_parts, run_at, is_counted, id_run_at, op_at, line_at, line_in, form_at, header_at}
 use Rattle.change_ops.specs.Spelling.{◌␣◌, form_text}
-use Rattle.change_ops.specs.Forms.{LinesAreForms, HeadersAreForms, Numeral, Joined, ◌⎵◌, IdForm, ParentForm, CodeForm, CharactersForm, CountedForm, RunForm, AnyForm, LineForm, FormWord, HeaderForm}
+use Rattle.change_ops.specs.Forms.{LinesAreForms, HeadersAreForms, Numeral, Joined, ◌⎵◌, IdForm, ParentForm, CodeForm, CharactersForm, CountedForm, RunForm, IdRunForm, AnyForm, LineForm, FormWord, HeaderForm}
 use Rattle.change_ops.specs.declared.line.Form.{Form}
-use Rattle.change_ops.specs.declared.line.Form.TheVariants.{First, Second}
+use Rattle.change_ops.specs.declared.line.Form.TheVariants.{First, Second, Third}
 use Rattle.change_ops.specs.declared.line.Line.{Line}
-use Rattle.change_ops.specs.declared.line.Line.TheVariants.{Operation, Run as RunLine}
+use Rattle.change_ops.specs.declared.line.Line.TheVariants.{Operation, Run as RunLine, Removals, Revivals}
 use Rattle.change_ops.proofs.Grammar.{Lacks, bind_some, split_again, split_takes}
 use Rattle.change_ops.proofs.Phrases.{same_bytes}
 use Rattle.change_ops.proofs.Keys.{lacks_printed, no_digit_below}
 use Rattle.change_ops.proofs.FormLaws.{joined_again, numeral_lacks, decimal_lacks, id_lacks, parent_lacks, id_form, id_read, parent_form, parent_read, code_form, code_read, op_form, op_read, lettered}
 use Rattle.change_ops.proofs.NumeralForms.{number_takes, number_again}
 use Rattle.change_ops.proofs.RunLaws.{not_none}
-use Rattle.change_ops.proofs.SpelledLines.{op_line_read, in_takes}
+use Rattle.change_ops.proofs.IdRunLaws.{id_run_read, id_run_counted}
+use Rattle.change_ops.proofs.SpelledLines.{chosen, of_letter, op_line_read, in_takes}
 
 -- characters
 
@@ -116,22 +119,58 @@ run_read fields run j =
       counted_read run.characters k.second k.after,
     ) refl
 
+-- runs of removals and of revivals
+
+abbrev IdsForm : IdRun → List ℕ → Type 0
+IdsForm run = IdForm run.id ⎵ IdForm run.first ⎵ Numeral 10 run.count
+
+ids_form : (fields : List ℕ) (run : IdRun) → id_run_at fields ≡ Some run → IdsForm run fields
+ids_form fields run e =
+    let r = id_run_read fields run e in
+    let inner : Joined 32 (IdForm run.first) (Numeral 10 run.count) r.others = record { first = r.named; second = r.number; whole = (split_takes 32 r.others r.named r.number r.behind).0; before = id_form r.named run.first r.first; after = number_takes 10 run.count r.number (omega arith) r.count } in
+    record { first = r.own; second = r.others; whole = (split_takes 32 fields r.own r.others r.parts).0; before = id_form r.own run.id r.id; after = inner }
+
+ids_read : (fields : List ℕ) (run : IdRun) → IdsForm run fields → id_run_at fields ≡ Some run
+unfolding id_run_at
+ids_read fields run j =
+    let k = j.after in
+    rw (
+      joined_again 32 fields j (id_lacks 32 run.id j.first (omega arith) j.before),
+      joined_again 32 j.second k (id_lacks 32 run.first k.first (omega arith) k.before),
+      id_read j.first run.id j.before,
+      id_read k.first run.first k.before,
+      number_again 10 run.count k.second (omega arith) k.after,
+    ) refl
+
 -- lines
 
 pub any_form : (text : List ℕ) (line : Line) → line_at text ≡ Some line → AnyForm line text
 unfolding line_at
 any_form text line e =
-    let a = bind_some (split 32 text) (λ first. if bytes_eq first.0 (codes "r") then (run_at first.1 >>= λ run. Some (RunLine run)) else (op_at text >>= λ op. Some (Operation op))) line e in
-    kinds a.0.0 a.0.1 (split_takes 32 text a.0.0 a.0.1 a.1).0 (bytes_eq a.0.0 (codes "r")) refl a.2
+    let a = bind_some (split 32 text) (λ first. of_letter text first.0 first.1) line e in
+    kinds a.0.0 a.0.1 (split_takes 32 text a.0.0 a.0.1 a.1).0 (bytes_eq a.0.0 (codes "r")) (bytes_eq a.0.0 (codes "d") && is_counted a.0.1) (bytes_eq a.0.0 (codes "v") && is_counted a.0.1) refl refl refl a.2
   where
-    kinds : (name fields : List ℕ) → text ≡ name ␣ fields → (b : Bool) → bytes_eq name (codes "r") ≡ b
-        → cond b (run_at fields >>= λ run. Some (RunLine run)) (op_at text >>= λ op. Some (Operation op)) ≡ Some line → AnyForm line text
-    kinds name fields whole true f g =
+    letter : (name word fields : List ℕ) → (bytes_eq name word && is_counted fields) ≡ true → name ≡ word
+    letter name word fields f = same_bytes name word (and_parts (bytes_eq name word) (is_counted fields) f).0
+
+    kinds : (name fields : List ℕ) → text ≡ name ␣ fields → (b d v : Bool) → bytes_eq name (codes "r") ≡ b → (bytes_eq name (codes "d") && is_counted fields) ≡ d → (bytes_eq name (codes "v") && is_counted fields) ≡ v
+        → chosen text fields b d v ≡ Some line → AnyForm line text
+    kinds name fields whole true d v f f2 f3 g =
         let b = bind_some (run_at fields) (λ run. Some (RunLine run)) line g in
         let same : RunLine b.0 ≡ line = cc (b.2) in
         let form : RunForm b.0 text = record { first = name; second = fields; whole = whole; before = same_bytes name (codes "r") f; after = run_form fields b.0 b.1 } in
         subst (λ (x : Line). AnyForm x text) same form
-    kinds name fields whole false f g =
+    kinds name fields whole false true v f f2 f3 g =
+        let b = bind_some (id_run_at fields) (λ run. Some (Removals run)) line g in
+        let same : Removals b.0 ≡ line = cc (b.2) in
+        let form : IdRunForm (codes "d") b.0 text = record { first = name; second = fields; whole = whole; before = letter name (codes "d") fields f2; after = ids_form fields b.0 b.1 } in
+        subst (λ (x : Line). AnyForm x text) same form
+    kinds name fields whole false false true f f2 f3 g =
+        let b = bind_some (id_run_at fields) (λ run. Some (Revivals run)) line g in
+        let same : Revivals b.0 ≡ line = cc (b.2) in
+        let form : IdRunForm (codes "v") b.0 text = record { first = name; second = fields; whole = whole; before = letter name (codes "v") fields f3; after = ids_form fields b.0 b.1 } in
+        subst (λ (x : Line). AnyForm x text) same form
+    kinds name fields whole false false false f f2 f3 g =
         let b = bind_some (op_at text) (λ op. Some (Operation op)) line g in
         let same : Operation b.0 ≡ line = cc (b.2) in
         subst (λ (x : Line). AnyForm x text) same (op_form text b.0 b.1)
@@ -140,6 +179,8 @@ pub any_read : (text : List ℕ) (line : Line) → AnyForm line text → line_at
 unfolding line_at
 any_read text (Operation op) h = op_line_read text op (op_read text op h)
 any_read text (RunLine run) j = rw (lettered 114 text j refl, run_read j.second run j.after) refl
+any_read text (Removals run) j = let e = ids_read j.second run j.after in rw (lettered 100 text j refl, id_run_counted j.second run e, e) refl
+any_read text (Revivals run) j = let e = ids_read j.second run j.after in rw (lettered 118 text j refl, id_run_counted j.second run e, e) refl
 
 pub line_form : (form : Form) (text : List ℕ) (line : Line) → line_in form text ≡ Some line → LineForm form line text
 line_form form text line e = let h = in_takes form text line e in record { had = h.had; spelled = any_form text line h.read }
@@ -156,27 +197,33 @@ abbrev HeaderOf : Header → List ℕ → Type 0
 HeaderOf h = HeaderForm h.0 h.1 h.2
 
 pub form_takes : (word : List ℕ) (form : Form) → form_at word ≡ Some form → word ≡ form_text form
-form_takes word form e = go (bytes_eq word (codes "change")) (bytes_eq word (codes "change2")) refl refl e where
-  go : (a b : Bool) → bytes_eq word (codes "change") ≡ a → bytes_eq word (codes "change2") ≡ b → cond a (Some First) (cond b (Some Second) None) ≡ Some form → word ≡ form_text form
-  go true b f g e = let same : First ≡ form = cc in same_bytes word (codes "change") f ∙ ap form_text same
-  go false true f g e = let same : Second ≡ form = cc in same_bytes word (codes "change2") g ∙ ap form_text same
-  go false false f g e = absurd cc
+form_takes word form e = go (bytes_eq word (codes "change")) (bytes_eq word (codes "change2")) (bytes_eq word (codes "change3")) refl refl refl e where
+  go : (a b c : Bool) → bytes_eq word (codes "change") ≡ a → bytes_eq word (codes "change2") ≡ b → bytes_eq word (codes "change3") ≡ c
+      → cond a (Some First) (cond b (Some Second) (cond c (Some Third) None)) ≡ Some form → word ≡ form_text form
+  go true b c f g h e = let same : First ≡ form = cc in same_bytes word (codes "change") f ∙ ap form_text same
+  go false true c f g h e = let same : Second ≡ form = cc in same_bytes word (codes "change2") g ∙ ap form_text same
+  go false false true f g h e = let same : Third ≡ form = cc in same_bytes word (codes "change3") h ∙ ap form_text same
+  go false false false f g h e = absurd cc
 
 pub form_again : (form : Form) → form_at (form_text form) ≡ Some form
 form_again First = refl
 form_again Second = refl
+form_again Third = refl
 
 pub form_lacks : (mark : ℕ) (form : Form) → mark < 33 → Lacks mark (form_text form)
 form_lacks mark First s = lacks_printed mark (codes "change") s refl
 form_lacks mark Second s = lacks_printed mark (codes "change2") s refl
+form_lacks mark Third s = lacks_printed mark (codes "change3") s refl
 
 form_word : (form : Form) (word : List ℕ) → word ≡ form_text form → FormWord form word
 form_word First word e = e
 form_word Second word e = e
+form_word Third word e = e
 
 word_form : (form : Form) (word : List ℕ) → FormWord form word → word ≡ form_text form
 word_form First word e = e
 word_form Second word e = e
+word_form Third word e = e
 
 pub header_form : (line : List ℕ) (h : Header) → header_at line ≡ Some h → HeaderForm h.0 h.1 h.2 line
 unfolding header_at

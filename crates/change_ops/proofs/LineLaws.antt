@@ -6,13 +6,13 @@ use Rattle.std.proofs.lemmas.Bool.{and_parts}
 use Rattle.change_ops.specs.Ids.{OpId, within_limits, is_character}
 use Rattle.change_ops.specs.Limits.{parent_within, anchor_within, anchors_within, key_within, attribute_within, marked_within, unmarked_within, op_within, has_character}
 use Rattle.change_ops.specs.Words.{split}
-use Rattle.change_ops.specs.Reading.{◌>>=◌, id_at, hex_at, parent_at, anchor_at, anchors_at, key_at, attribute_at, insert_at, remove_at, marked_at, mark_at, unmarked_at, unmark_at, op_at}
+use Rattle.change_ops.specs.Reading.{◌>>=◌, id_at, hex_at, parent_at, anchor_at, anchors_at, key_at, attribute_at, insert_at, remove_at, marked_at, mark_at, unmarked_at, unmark_at, revive_at, op_at}
 use Rattle.change_ops.specs.Spelling.{◌␣◌, hexadecimal, id_text, parent_text, anchor_text, key_text, attribute_text, op_text}
 use Rattle.change_ops.specs.declared.attribute.Key.{Key}
 use Rattle.change_ops.specs.declared.attribute.Attribute.{Attribute}
 use Rattle.change_ops.specs.declared.operation.Anchor.{Anchor}
 use Rattle.change_ops.specs.declared.operation.Op.{Op}
-use Rattle.change_ops.specs.declared.operation.Op.TheVariants.{Insert, Remove, AddMark, RemoveMark}
+use Rattle.change_ops.specs.declared.operation.Op.TheVariants.{Insert, Remove, AddMark, RemoveMark, Revive}
 use Rattle.change_ops.proofs.Grammar.{Lacks, bind_some, split_again, split_takes}
 use Rattle.change_ops.proofs.Phrases.{lacks_cons, lacks_joined, hex_again, hex_takes, hex_lacks, id_again, id_takes, id_lacks, parent_again, parent_takes, parent_lacks, anchor_again, anchor_takes, anchor_lacks, same_bytes}
 use Rattle.change_ops.proofs.Keys.{key_again, key_takes, key_lacks, attribute_again, attribute_takes, attribute_lacks}
@@ -67,6 +67,10 @@ unmark_again id key start end h k s e =
     let two = first (key_text key) anchors (key_lacks 32 key (omega arith) k) in
     rw (id_first id (key_text key ␣ anchors) h, id_again id h, two, key_again key k, anchors_again start end s e) refl
 
+revive_again : (id removal : OpId) → within_limits id ≡ true → within_limits removal ≡ true → revive_at (id_text id ␣ id_text removal) ≡ Some (Revive id removal)
+unfolding revive_at
+revive_again id removal h r = rw (id_first id (id_text removal) h, id_again id h, id_again removal r) refl
+
 -- the first word of a line
 pub kind : (b : ℕ) (fields : List ℕ) → eqb b 32 ≡ false → split 32 ((b ∷ []) ␣ fields) ≡ Some (b ∷ [], fields)
 kind b fields h = first (b ∷ []) fields (lacks_cons 32 b [] h (λ k lt. absurd (omega arith)))
@@ -89,6 +93,9 @@ op_again (RemoveMark id key start end) h c =
     let m = and_parts (key_within key) (anchors_within (start, end)) w.1 in
     let a = and_parts (anchor_within start) (anchor_within end) m.1 in
     rw (kind 117 (id_text id ␣ key_text key ␣ anchor_text start ␣ anchor_text end) refl, unmark_again id key start end w.0 m.0 a.0 a.1) refl
+op_again (Revive id removal) h c =
+    let w = and_parts (within_limits id) (within_limits removal) h in
+    rw (kind 118 (id_text id ␣ id_text removal) refl, revive_again id removal w.0 w.1) refl
 
 -- a line has no LF
 
@@ -121,6 +128,9 @@ op_lacks (RemoveMark id key start end) h c =
     let m = and_parts (key_within key) (anchors_within (start, end)) w.1 in
     let a = and_parts (anchor_within start) (anchor_within end) m.1 in
     behind (codes "u") _ (letter 117 refl) (behind (id_text id) _ (id_line id w.0) (behind (key_text key) _ (key_lacks 10 key (omega arith) m.0) (anchors_line start end a.0 a.1)))
+op_lacks (Revive id removal) h c =
+    let w = and_parts (within_limits id) (within_limits removal) h in
+    behind (codes "v") _ (letter 118 refl) (behind (id_text id) (id_text removal) (id_line id w.0) (id_line removal w.1))
 
 -- what is read is spelled so
 
@@ -225,21 +235,33 @@ unmark_takes fields op e h =
     let one = (split_takes 32 fields a.0.0 a.0.1 a.1).0 in
     ap (λ (x : List ℕ). codes "u" ␣ x) (one ∙ both (id_takes a.0.0 b.0 w.0 b.1) (unmarked_takes a.0.1 c.0 w.1 c.1)) ∙ ap op_text same
 
+revive_takes : (fields : List ℕ) (op : Op) → revive_at fields ≡ Some op → op_within op ≡ true → codes "v" ␣ fields ≡ op_text op
+unfolding revive_at
+revive_takes fields op e h =
+    let a = bind_some (split 32 fields) (λ first. id_at first.0 >>= λ id. id_at first.1 >>= λ removal. Some (Revive id removal)) op e in
+    let b = bind_some (id_at a.0.0) (λ id. id_at a.0.1 >>= λ removal. Some (Revive id removal)) op a.2 in
+    let c = bind_some (id_at a.0.1) (λ removal. Some (Revive b.0 removal)) op b.2 in
+    let same : Revive b.0 c.0 ≡ op = cc (c.2) in
+    let w = and_parts (within_limits b.0) (within_limits c.0) (rw (← same) at h) in
+    let one = (split_takes 32 fields a.0.0 a.0.1 a.1).0 in
+    ap (λ (x : List ℕ). codes "v" ␣ x) (one ∙ both (id_takes a.0.0 b.0 w.0 b.1) (id_takes a.0.1 c.0 w.1 c.1)) ∙ ap op_text same
+
 pub op_takes : (line : List ℕ) (op : Op) → op_at line ≡ Some op → op_within op ≡ true → has_character op ≡ true → line ≡ op_text op
 unfolding op_at
 op_takes line op e h g =
-    let a = bind_some (split 32 line) (λ first. if bytes_eq first.0 (codes "i") then insert_at first.1 else if bytes_eq first.0 (codes "d") then remove_at first.1 else if bytes_eq first.0 (codes "m") then mark_at first.1 else if bytes_eq first.0 (codes "u") then unmark_at first.1 else None) op e in
+    let a = bind_some (split 32 line) (λ first. if bytes_eq first.0 (codes "i") then insert_at first.1 else if bytes_eq first.0 (codes "d") then remove_at first.1 else if bytes_eq first.0 (codes "m") then mark_at first.1 else if bytes_eq first.0 (codes "u") then unmark_at first.1 else if bytes_eq first.0 (codes "v") then revive_at first.1 else None) op e in
     kinds a.0.0 a.0.1 (split_takes 32 line a.0.0 a.0.1 a.1).0 a.2
   where
-    kinds : (name fields : List ℕ) → line ≡ name ␣ fields → (if bytes_eq name (codes "i") then insert_at fields else if bytes_eq name (codes "d") then remove_at fields else if bytes_eq name (codes "m") then mark_at fields else if bytes_eq name (codes "u") then unmark_at fields else None) ≡ Some op → line ≡ op_text op
-    kinds name fields whole e = go (bytes_eq name (codes "i")) (bytes_eq name (codes "d")) (bytes_eq name (codes "m")) (bytes_eq name (codes "u")) refl refl refl refl e where
+    kinds : (name fields : List ℕ) → line ≡ name ␣ fields → (if bytes_eq name (codes "i") then insert_at fields else if bytes_eq name (codes "d") then remove_at fields else if bytes_eq name (codes "m") then mark_at fields else if bytes_eq name (codes "u") then unmark_at fields else if bytes_eq name (codes "v") then revive_at fields else None) ≡ Some op → line ≡ op_text op
+    kinds name fields whole e = go (bytes_eq name (codes "i")) (bytes_eq name (codes "d")) (bytes_eq name (codes "m")) (bytes_eq name (codes "u")) (bytes_eq name (codes "v")) refl refl refl refl refl e where
       named : (word : List ℕ) → bytes_eq name word ≡ true → line ≡ word ␣ fields
       named word f = whole ∙ ap (λ (x : List ℕ). x ␣ fields) (same_bytes name word f)
 
-      go : (a b c d : Bool) → bytes_eq name (codes "i") ≡ a → bytes_eq name (codes "d") ≡ b → bytes_eq name (codes "m") ≡ c → bytes_eq name (codes "u") ≡ d
-          → cond a (insert_at fields) (cond b (remove_at fields) (cond c (mark_at fields) (cond d (unmark_at fields) None))) ≡ Some op → line ≡ op_text op
-      go true b c d f1 f2 f3 f4 e = named (codes "i") f1 ∙ insert_takes fields op e h g
-      go false true c d f1 f2 f3 f4 e = named (codes "d") f2 ∙ remove_takes fields op e h
-      go false false true d f1 f2 f3 f4 e = named (codes "m") f3 ∙ mark_takes fields op e h
-      go false false false true f1 f2 f3 f4 e = named (codes "u") f4 ∙ unmark_takes fields op e h
-      go false false false false f1 f2 f3 f4 e = absurd cc
+      go : (a b c d k : Bool) → bytes_eq name (codes "i") ≡ a → bytes_eq name (codes "d") ≡ b → bytes_eq name (codes "m") ≡ c → bytes_eq name (codes "u") ≡ d → bytes_eq name (codes "v") ≡ k
+          → cond a (insert_at fields) (cond b (remove_at fields) (cond c (mark_at fields) (cond d (unmark_at fields) (cond k (revive_at fields) None)))) ≡ Some op → line ≡ op_text op
+      go true b c d k f1 f2 f3 f4 f5 e = named (codes "i") f1 ∙ insert_takes fields op e h g
+      go false true c d k f1 f2 f3 f4 f5 e = named (codes "d") f2 ∙ remove_takes fields op e h
+      go false false true d k f1 f2 f3 f4 f5 e = named (codes "m") f3 ∙ mark_takes fields op e h
+      go false false false true k f1 f2 f3 f4 f5 e = named (codes "u") f4 ∙ unmark_takes fields op e h
+      go false false false false true f1 f2 f3 f4 f5 e = named (codes "v") f5 ∙ revive_takes fields op e h
+      go false false false false false f1 f2 f3 f4 f5 e = absurd cc

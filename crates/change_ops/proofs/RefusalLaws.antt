@@ -1,11 +1,13 @@
 -- A text is refused as the grammar says, and with no other refusal.
-use Rattle.std.proofs.Common.{◌≡◌, ◌≢◌, ℕ, zero, suc, ◌+◌, ◌-◌, ◌<◌, Bool, true, false, cond, eqb, List, [], ◌∷◌, length, Option, Some, None, Result, Ok, Err, ◌⊎◌, inl, inr, refl, sym, ap, subst, ◌∙◌, arith}
-use Rattle.std.specs.Prelude.{not, ◌&&◌, nat_le, IsTrue, IfErr}
+use Rattle.std.proofs.Common.{◌≡◌, ◌≢◌, ℕ, zero, suc, ◌+◌, ◌<◌, Bool, true, false, cond, eqb, List, [], ◌∷◌, length, Option, Some, None, Result, Ok, Err, ◌⊎◌, inl, inr, refl, sym, ap, subst, ◌∙◌, arith}
+use Rattle.std.specs.Prelude.{not, ◌&&◌, IsTrue, IfErr}
 use Rattle.std.specs.List.{position_or_len}
-use Rattle.std.proofs.lemmas.Bool.{cases_lt, and_from, lt-ltb, le-leb, eq-eqb}
+use Rattle.std.proofs.lemmas.Bool.{cases_lt, and_from, lt-ltb, eq-eqb}
 use Rattle.std.proofs.lemmas.Bool.Decides.{eqb_tells}
 use Rattle.std.proofs.lemmas.List.Sums.{fails_before_first}
-use Rattle.change_ops.specs.Lines.{ops_of_lines, count_of, first_id, line_within, line_has_characters}
+use Rattle.change_ops.specs.Lines.{first_id, line_within, line_has_characters}
+use Rattle.change_ops.specs.Rooms.{whole_room, line_fits, room_behind, room_left}
+use Rattle.change_ops.specs.declared.room.Room.{Room}
 use Rattle.change_ops.specs.Words.{split}
 use Rattle.change_ops.specs.Reading.{header_at, line_in, line_verdict}
 use Rattle.change_ops.specs.Changes.{Header, ◌>>=◌, Gives, at_line, lined, ended, is_header, within_header, header_verdict, next_at, lines_at, change_at}
@@ -21,7 +23,8 @@ use Rattle.change_ops.proofs.Grammar.{Lacks, split_again, split_takes}
 use Rattle.change_ops.proofs.Phrases.{lacks_nil, lacks_cons}
 use Rattle.change_ops.proofs.Splitting.{split_none}
 use Rattle.change_ops.proofs.LineForms.{line_form, line_read, header_form, header_read}
-use Rattle.change_ops.proofs.ChangeLaws.{bind_ok, same_ok, lined_takes, verdict_takes, more_ops, no_ops, Parts, One, Lines, Pair}
+use Rattle.change_ops.proofs.RoomLaws.{left_none, left_more}
+use Rattle.change_ops.proofs.ChangeLaws.{bind_ok, same_ok, lined_takes, verdict_takes, Parts, One, Lines, Pair}
 
 -- a text's first line
 
@@ -72,18 +75,18 @@ lined_err n (Err fault) e h = (fault, refl, cc)
 
 -- one line
 
-verdict_err : (form : Form) (peer room : ℕ) (text : List ℕ) (read : Option Spelled) (fault : LineFault) → line_in form text ≡ read → line_verdict peer room read ≡ Err fault → IsFaulty form peer room text fault
+verdict_err : (form : Form) (peer : ℕ) (room : Room) (text : List ℕ) (read : Option Spelled) (fault : LineFault) → line_in form text ≡ read → line_verdict peer room read ≡ Err fault → IsFaulty form peer room text fault
 verdict_err form peer room text None fault e h =
     let same : why.BadLine ≡ fault = cc in
     subst (IsFaulty form peer room text) same (λ line spelled. let f = line_read form text line spelled in absurd cc)
-verdict_err form peer room text (Some line) fault e h = go (line_within line && nat_le (count_of line) room) (line_has_characters line) (eqb (first_id line).node peer) refl refl refl h where
+verdict_err form peer room text (Some line) fault e h = go (line_within line && line_fits room line) (line_has_characters line) (eqb (first_id line).node peer) refl refl refl h where
   spelled : LineForm form line text
   spelled = line_form form text line e
 
   other : eqb (first_id line).node peer ≡ false → (first_id line).node ≢ peer
   other f same = let g : eqb (first_id line).node peer ≡ true = eq-eqb _ _ same in absurd cc
 
-  go : (a b c : Bool) → (line_within line && nat_le (count_of line) room) ≡ a → line_has_characters line ≡ b → eqb (first_id line).node peer ≡ c
+  go : (a b c : Bool) → (line_within line && line_fits room line) ≡ a → line_has_characters line ≡ b → eqb (first_id line).node peer ≡ c
       → cond (not a) (Err why.Limit) (cond (not b) (Err why.CharRefused) (cond c (Ok line) (Err why.WrongPeer))) ≡ Err fault → IsFaulty form peer room text fault
   go false b c f1 f2 f3 h = let same : why.Limit ≡ fault = cc in subst (IsFaulty form peer room text) same (line, spelled, f1)
   go true false c f1 f2 f3 h = let same : why.CharRefused ≡ fault = cc in subst (IsFaulty form peer room text) same (line, spelled, f1, f2)
@@ -91,11 +94,11 @@ verdict_err form peer room text (Some line) fault e h = go (line_within line && 
   go true true true f1 f2 f3 h = absurd cc
 
 -- the line of this number, which what remains begins with, is refused
-abbrev NextRefused : Form → ℕ → ℕ → ℕ → List ℕ → ChangeError → Type 0
+abbrev NextRefused : Form → ℕ → Room → ℕ → List ℕ → ChangeError → Type 0
 NextRefused form peer room n remains e =
     (IsUnended remains × (Truncated ≡ e)) ⊎ ((fault : LineFault) × (line : List ℕ) × (rest : List ℕ) × Line remains line rest × IsFaulty form peer room line fault × (at_line n fault ≡ e))
 
-next_err : (form : Form) (peer room n : ℕ) (bytes : List ℕ) (e : ChangeError) → next_at form peer room n bytes ≡ Err e → NextRefused form peer room n bytes e
+next_err : (form : Form) (peer : ℕ) (room : Room) (n : ℕ) (bytes : List ℕ) (e : ChangeError) → next_at form peer room n bytes ≡ Err e → NextRefused form peer room n bytes e
 unfolding next_at
 next_err form peer room n bytes e h = elim (bind_err (ended (split 10 bytes)) (λ parts. lined n (line_verdict peer room (line_in form parts.0)) >>= λ line. Ok (line, parts.1)) e h) [
   | inl none ↦ let x = ended_err (split 10 bytes) e none in inl (unended bytes (split_nothing bytes x.0), x.1)
@@ -107,7 +110,7 @@ next_err form peer room n bytes e h = elim (bind_err (ended (split 10 bytes)) (�
   ]
 ]
 
-next_ok : (form : Form) (peer room n : ℕ) (bytes : List ℕ) (x : One) → next_at form peer room n bytes ≡ Ok x → Accepted form peer room x.0 bytes x.1
+next_ok : (form : Form) (peer : ℕ) (room : Room) (n : ℕ) (bytes : List ℕ) (x : One) → next_at form peer room n bytes ≡ Ok x → Accepted form peer room x.0 bytes x.1
 unfolding next_at
 next_ok form peer room n bytes x e =
     let a = bind_ok (ended (split 10 bytes)) (λ parts. lined n (line_verdict peer room (line_in form parts.0)) >>= λ line. Ok (line, parts.1)) x e in
@@ -116,38 +119,34 @@ next_ok form peer room n bytes x e =
     let same : read ≡ x = same_ok read x (Ok read) refl b.2 in
     let v = verdict_takes peer room (line_in form a.0.0) b.0 (lined_takes n (line_verdict peer room (line_in form a.0.0)) b.0 b.1) in
     let j = v.judged in
-    let fits = and_from _ (nat_le (count_of b.0) room) j.within (le-leb _ _ j.fits) in
+    let fits = and_from (line_within b.0) (line_fits room b.0) j.within j.fits in
     let taken : Accepted form peer room b.0 bytes a.0.1 = record { line = a.0.0; first = first_line bytes a.0.0 a.0.1 (ended_ok (split 10 bytes) a.0 a.1); spelled = line_form form a.0.0 b.0 v.read; within = fits; characters = j.characters; own = j.own } in
     subst (λ (y : One). Accepted form peer room y.0 bytes y.1) same taken
 
 -- all lines
 
-record LinesRefused (form : Form) (peer room n count : ℕ) (bytes : List ℕ) (e : ChangeError) : Type 0 where
+record LinesRefused (form : Form) (peer : ℕ) (room : Room) (n count : ℕ) (bytes : List ℕ) (e : ChangeError) : Type 0 where
   before : List Spelled
   remains : List ℕ
-  left : ℕ
+  left : Room
   wanted : length before < count
   accepted : AcceptedLines form peer room before bytes remains
-  left_is : left ≡ room - length (ops_of_lines before)
+  left_is : left ≡ room_left room before
   refused : NextRefused form peer left (length before + n) remains e
 
-lines_err : (form : Form) (peer room n count : ℕ) (bytes : List ℕ) (e : ChangeError) → lines_at form peer room n count bytes ≡ Err e → LinesRefused form peer room n count bytes e
+lines_err : (form : Form) (peer : ℕ) (room : Room) (n count : ℕ) (bytes : List ℕ) (e : ChangeError) → lines_at form peer room n count bytes ≡ Err e → LinesRefused form peer room n count bytes e
 unfolding lines_at
 lines_err form peer room n zero bytes e h = absurd cc
-lines_err form peer room n (suc count) bytes e h = elim (bind_err (next_at form peer room n bytes) (λ first. lines_at form peer (room - count_of first.0) (n + 1) count first.1 >>= λ others. Ok (first.0 ∷ others.0, others.1)) e h) [
+lines_err form peer room n (suc count) bytes e h = elim (bind_err (next_at form peer room n bytes) (λ first. lines_at form peer (room_behind room first.0) (n + 1) count first.1 >>= λ others. Ok (first.0 ∷ others.0, others.1)) e h) [
   | inl refused ↦
       let here : 0 + n ≡ n = omega arith in
-      let none = no_ops in
-      let left_is : room ≡ room - length (ops_of_lines []) = omega arith in
-      record { before = []; remains = bytes; left = room; wanted = omega arith; accepted = refl; left_is = left_is; refused = rw here (next_err form peer room n bytes e refused) }
-  | inr first ↦ elim (bind_err (lines_at form peer (room - count_of first.0.0) (n + 1) count first.0.1) (λ others. Ok (first.0.0 ∷ others.0, others.1)) e first.2) [
+      record { before = []; remains = bytes; left = room; wanted = omega arith; accepted = refl; left_is = sym (left_none room); refused = rw here (next_err form peer room n bytes e refused) }
+  | inr first ↦ elim (bind_err (lines_at form peer (room_behind room first.0.0) (n + 1) count first.0.1) (λ others. Ok (first.0.0 ∷ others.0, others.1)) e first.2) [
     | inl refused ↦
-        let r = lines_err form peer (room - count_of first.0.0) (n + 1) count first.0.1 e refused in
+        let r = lines_err form peer (room_behind room first.0.0) (n + 1) count first.0.1 e refused in
         let number_is : length r.before + (n + 1) ≡ suc (length r.before) + n = omega arith in
         let small : length r.before < count = r.wanted in
-        let all = more_ops first.0.0 r.before in
-        let less = r.left_is in
-        let left_is : r.left ≡ room - length (ops_of_lines (first.0.0 ∷ r.before)) = omega arith in
+        let left_is = r.left_is ∙ sym (left_more room first.0.0 r.before) in
         record { before = first.0.0 ∷ r.before; remains = r.remains; left = r.left; wanted = omega arith; accepted = (first.0.1, next_ok form peer room n bytes first.0 first.1, r.accepted); left_is = left_is; refused = subst (λ (m : ℕ). NextRefused form peer r.left m r.remains e) number_is r.refused }
     | inr read ↦ absurd (let f = read.2 in cc)
   ]
@@ -180,7 +179,7 @@ fault_at text n why.WrongPeer e same h = subst (IsRefused text) same h
 fault_at text n why.OutOfMemory e same (inl h) = absurd h.1.3
 fault_at text n why.OutOfMemory e same (inr h) = absurd h.8
 
-lines_refused : (text header rest : List ℕ) (x : Header) (e : ChangeError) → Line text header rest → HeaderForm x.0 x.1 x.2 header → IsTrue (is_header x) → LinesRefused x.0 x.1 256 2 x.2 rest e → IsRefused text e
+lines_refused : (text header rest : List ℕ) (x : Header) (e : ChangeError) → Line text header rest → HeaderForm x.0 x.1 x.2 header → IsTrue (is_header x) → LinesRefused x.0 x.1 whole_room 2 x.2 rest e → IsRefused text e
 lines_refused text header rest x e first spelled within r =
     let n = length r.before + 2 in
     let reached : Reached text n x.0 x.1 r.left r.remains = record { header = header; rest = rest; count = x.2; first = first; spelled = spelled; within = within; before = r.before; numbered = refl; wanted = r.wanted; accepted = r.accepted; left = r.left_is } in
@@ -194,20 +193,20 @@ edited header found = Ok (record { form = header.0; node = header.1; lines = fou
 
 pub change_err : (text : List ℕ) (e : ChangeError) → change_at text ≡ Err e → IsRefused text e
 unfolding change_at edited
-change_err text e h = elim (bind_err (ended (split 10 text)) (λ parts. lined 1 (header_verdict (header_at parts.0)) >>= λ header. lines_at header.0 header.1 256 2 header.2 parts.1 >>= λ found. edited header found) e h) [
+change_err text e h = elim (bind_err (ended (split 10 text)) (λ parts. lined 1 (header_verdict (header_at parts.0)) >>= λ header. lines_at header.0 header.1 whole_room 2 header.2 parts.1 >>= λ found. edited header found) e h) [
   | inl none ↦ let x = ended_err (split 10 text) e none in subst (IsRefused text) x.1 (inl (unended text (split_nothing text x.0)))
   | inr some ↦
       let parts = some.0 in
       let first = first_line text parts.0 parts.1 (ended_ok (split 10 text) parts some.1) in
-      elim (bind_err (lined 1 (header_verdict (header_at parts.0))) (λ header. lines_at header.0 header.1 256 2 header.2 parts.1 >>= λ found. edited header found) e some.2) [
+      elim (bind_err (lined 1 (header_verdict (header_at parts.0))) (λ header. lines_at header.0 header.1 whole_room 2 header.2 parts.1 >>= λ found. edited header found) e some.2) [
         | inl refused ↦
             let p = lined_err 1 (header_verdict (header_at parts.0)) e refused in
             fault_at text 1 p.0 e p.2 (inl (refl, (parts.0, parts.1, first, header_err parts.0 (header_at parts.0) p.0 refl p.1)))
         | inr header ↦
             let x = header.0 in
             let fine = header_ok parts.0 (header_at parts.0) x refl (lined_takes 1 (header_verdict (header_at parts.0)) x header.1) in
-            elim (bind_err (lines_at x.0 x.1 256 2 x.2 parts.1) (λ found. edited x found) e header.2) [
-              | inl refused ↦ lines_refused text parts.0 parts.1 x e first fine.0 fine.1 (lines_err x.0 x.1 256 2 x.2 parts.1 e refused)
+            elim (bind_err (lines_at x.0 x.1 whole_room 2 x.2 parts.1) (λ found. edited x found) e header.2) [
+              | inl refused ↦ lines_refused text parts.0 parts.1 x e first fine.0 fine.1 (lines_err x.0 x.1 whole_room 2 x.2 parts.1 e refused)
               | inr read ↦ absurd (let f = read.2 in cc)
             ]
       ]
@@ -227,7 +226,7 @@ gives_refused view (Err (WrongPeer n)) text h = inr (change_err text (WrongPeer 
 
 -- a text at fault is refused with that refusal, and no other
 
-line_fault_again : (form : Form) (peer room : ℕ) (text : List ℕ) (fault : LineFault) → IsFaulty form peer room text fault → line_verdict peer room (line_in form text) ≡ Err fault
+line_fault_again : (form : Form) (peer : ℕ) (room : Room) (text : List ℕ) (fault : LineFault) → IsFaulty form peer room text fault → line_verdict peer room (line_in form text) ≡ Err fault
 line_fault_again form peer room text why.BadLine h = go (line_in form text) refl where
   go : (o : Option Spelled) → line_in form text ≡ o → line_verdict peer room o ≡ Err why.BadLine
   go None e = refl
@@ -240,36 +239,33 @@ line_fault_again form peer room text why.WrongPeer h =
     ap (line_verdict peer room) e ∙ rw (h.2, h.3, other) refl
 line_fault_again form peer room text why.OutOfMemory h = absurd h
 
-next_fault_again : (form : Form) (peer room n : ℕ) (bytes line rest : List ℕ) (fault : LineFault) → Line bytes line rest → IsFaulty form peer room line fault → next_at form peer room n bytes ≡ Err (at_line n fault)
+next_fault_again : (form : Form) (peer : ℕ) (room : Room) (n : ℕ) (bytes line rest : List ℕ) (fault : LineFault) → Line bytes line rest → IsFaulty form peer room line fault → next_at form peer room n bytes ≡ Err (at_line n fault)
 unfolding next_at
 next_fault_again form peer room n bytes line rest fault first h = rw (line_again bytes line rest first, line_fault_again form peer room line fault h) refl
 
-next_none_again : (form : Form) (peer room n : ℕ) (bytes : List ℕ) → IsUnended bytes → next_at form peer room n bytes ≡ Err Truncated
+next_none_again : (form : Form) (peer : ℕ) (room : Room) (n : ℕ) (bytes : List ℕ) → IsUnended bytes → next_at form peer room n bytes ≡ Err Truncated
 unfolding next_at
 next_none_again form peer room n bytes h = rw (none_again bytes h) refl
 
-accepted_again : (form : Form) (peer room n : ℕ) (line : Spelled) (bytes rest : List ℕ) → Accepted form peer room line bytes rest → next_at form peer room n bytes ≡ Ok (line, rest)
+accepted_again : (form : Form) (peer : ℕ) (room : Room) (n : ℕ) (line : Spelled) (bytes rest : List ℕ) → Accepted form peer room line bytes rest → next_at form peer room n bytes ≡ Ok (line, rest)
 unfolding next_at
 accepted_again form peer room n line bytes rest a =
     let read : line_verdict peer room (line_in form a.line) ≡ Ok line = ap (line_verdict peer room) (line_read form a.line line a.spelled) ∙ rw (a.within, a.characters, eq-eqb _ _ a.own) refl in
     rw (line_again bytes a.line rest a.first, read) refl
 
-lines_fault_again : (form : Form) (peer room n count : ℕ) (before : List Spelled) (bytes remains : List ℕ) (e : ChangeError) → AcceptedLines form peer room before bytes remains → length before < count
-    → next_at form peer (room - length (ops_of_lines before)) (length before + n) remains ≡ Err e → lines_at form peer room n count bytes ≡ Err e
+lines_fault_again : (form : Form) (peer : ℕ) (room : Room) (n count : ℕ) (before : List Spelled) (bytes remains : List ℕ) (e : ChangeError) → AcceptedLines form peer room before bytes remains → length before < count
+    → next_at form peer (room_left room before) (length before + n) remains ≡ Err e → lines_at form peer room n count bytes ≡ Err e
 unfolding lines_at
 lines_fault_again form peer room n zero before bytes remains e accepted small h = absurd (omega arith)
 lines_fault_again form peer room n (suc count) [] bytes remains e accepted small h =
     let here : 0 + n ≡ n = omega arith in
-    let none = no_ops in
-    let all : room - length (ops_of_lines []) ≡ room = omega arith in
-    let next : next_at form peer room n bytes ≡ Err e = ap (next_at form peer room n) accepted ∙ rw (all, here) at h in
+    let next : next_at form peer room n bytes ≡ Err e = (λ i. next_at form peer (sym (left_none room) i) (sym here i) (accepted i)) ∙ h in
     rw next refl
 lines_fault_again form peer room n (suc count) (line ∷ before) bytes remains e accepted small h =
     let number_is : suc (length before) + n ≡ length before + (n + 1) = omega arith in
-    let more = more_ops line before in
-    let left : room - length (ops_of_lines (line ∷ before)) ≡ (room - count_of line) - length (ops_of_lines before) = omega arith in
-    let next : next_at form peer ((room - count_of line) - length (ops_of_lines before)) (length before + (n + 1)) remains ≡ Err e = (λ i. next_at form peer (sym left i) (sym number_is i) remains) ∙ h in
-    rw (accepted_again form peer room n line bytes accepted.0 accepted.1, lines_fault_again form peer (room - count_of line) (n + 1) count before accepted.0 remains e accepted.2 (omega arith) next) refl
+    let left = left_more room line before in
+    let next : next_at form peer (room_left (room_behind room line) before) (length before + (n + 1)) remains ≡ Err e = (λ i. next_at form peer (sym left i) (sym number_is i) remains) ∙ h in
+    rw (accepted_again form peer room n line bytes accepted.0 accepted.1, lines_fault_again form peer (room_behind room line) (n + 1) count before accepted.0 remains e accepted.2 (omega arith) next) refl
 
 header_fault_again : (line : List ℕ) (fault : LineFault) → IsFaultyHeader line fault → header_verdict (header_at line) ≡ Err fault
 header_fault_again line why.BadLine h = go (header_at line) refl where
@@ -281,11 +277,11 @@ header_fault_again line why.CharRefused h = absurd h
 header_fault_again line why.WrongPeer h = absurd h
 header_fault_again line why.OutOfMemory h = absurd h
 
-reached_again : (text : List ℕ) (n : ℕ) (form : Form) (node room : ℕ) (remains : List ℕ) (e : ChangeError) → Reached text n form node room remains → next_at form node room n remains ≡ Err e → change_at text ≡ Err e
+reached_again : (text : List ℕ) (n : ℕ) (form : Form) (node : ℕ) (room : Room) (remains : List ℕ) (e : ChangeError) → Reached text n form node room remains → next_at form node room n remains ≡ Err e → change_at text ≡ Err e
 unfolding change_at
 reached_again text n form node room remains e r h =
-    let next : next_at form node (256 - length (ops_of_lines r.before)) (length r.before + 2) remains ≡ Err e = (λ i. next_at form node (sym r.left i) (sym r.numbered i) remains) ∙ h in
-    rw (line_again text r.header r.rest r.first, header_read r.header form node r.count r.spelled, r.within, lines_fault_again form node 256 2 r.count r.before r.rest remains e r.accepted r.wanted next) refl
+    let next : next_at form node (room_left whole_room r.before) (length r.before + 2) remains ≡ Err e = (λ i. next_at form node (sym r.left i) (sym r.numbered i) remains) ∙ h in
+    rw (line_again text r.header r.rest r.first, header_read r.header form node r.count r.spelled, r.within, lines_fault_again form node whole_room 2 r.count r.before r.rest remains e r.accepted r.wanted next) refl
 
 first_fault_again : (text line rest : List ℕ) (fault : LineFault) → Line text line rest → IsFaultyHeader line fault → change_at text ≡ Err (at_line 1 fault)
 unfolding change_at

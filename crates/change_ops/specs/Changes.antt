@@ -1,14 +1,16 @@
 -- Reading a change from left to right, with the first fault that is met.
-use Rattle.std.specs.Prelude.{◌≡◌, ℕ, zero, suc, ◌+◌, ◌-◌, ◌≤◌, nat_le, ◌&&◌, if◌then◌else◌, Bool, List, [], ◌∷◌}
+use Rattle.std.specs.Prelude.{◌≡◌, ℕ, zero, suc, ◌+◌, ◌≤◌, nat_le, ◌&&◌, if◌then◌else◌, Bool, List, [], ◌∷◌}
 use Rattle.std.specs.Prelude.{length, Option, Some, None, Result, Ok, Err, IsTrue}
 use Rattle.std.specs.List.{AllByRecursion}
 use Rattle.change_ops.specs.Ids.{is_node}
 use Rattle.change_ops.specs.Words.{split}
-use Rattle.change_ops.specs.Lines.{ops_of_lines, count_of, first_id, line_within, line_has_characters, has_line}
+use Rattle.change_ops.specs.Lines.{ops_of_lines, count_of_lines, first_id, line_within, line_has_characters, has_line}
+use Rattle.change_ops.specs.Rooms.{whole_room, room_behind}
 use Rattle.change_ops.specs.Reading.{header_at, line_in, line_verdict}
 use Rattle.change_ops.specs.declared.operation.Op.{Op}
 use Rattle.change_ops.specs.declared.line.Form.{Form}
 use Rattle.change_ops.specs.declared.line.Line.{Line}
+use Rattle.change_ops.specs.declared.room.Room.{Room}
 use Rattle.change_ops.specs.declared.refusal.LineFault.{LineFault}
 use Rattle.change_ops.specs.declared.refusal.LineFault.TheVariants as line
 use Rattle.change_ops.specs.declared.refusal.ChangeError.{ChangeError}
@@ -59,19 +61,19 @@ abbrev pub ended : Option (List ℕ × List ℕ) → Result (List ℕ × List �
 ended None = Err Truncated
 ended (Some parts) = Ok parts
 
--- the line of number `n` of a change with room for `room` operations, and what follows the line
-unfoldable pub next_at : Form → ℕ → ℕ → ℕ → List ℕ → Result (Line × List ℕ) ChangeError
+-- the line of number `n` of a change with this room, and what follows the line
+unfoldable pub next_at : Form → ℕ → Room → ℕ → List ℕ → Result (Line × List ℕ) ChangeError
 next_at form peer room n bytes = do
   parts ← ended (split 10 bytes)
   found ← lined n (line_verdict peer room (line_in form parts.0))
   Ok (found, parts.1)
 
--- `count` lines, the first with the number `n`, with room for `room` operations
-unfoldable pub lines_at : Form → ℕ → ℕ → ℕ → ℕ → List ℕ → Result (List Line × List ℕ) ChangeError
+-- `count` lines, the first with the number `n`, in this room
+unfoldable pub lines_at : Form → ℕ → Room → ℕ → ℕ → List ℕ → Result (List Line × List ℕ) ChangeError
 lines_at form peer room n zero bytes = Ok ([], bytes)
 lines_at form peer room n (suc count) bytes = do
   first ← next_at form peer room n bytes
-  others ← lines_at form peer (room - count_of first.0) (n + 1) count first.1
+  others ← lines_at form peer (room_behind room first.0) (n + 1) count first.1
   Ok (first.0 ∷ others.0, others.1)
 
 -- form, node and count, and the limits of these
@@ -97,7 +99,7 @@ unfoldable pub change_at : List ℕ → Result (Change × List ℕ) ChangeError
 change_at bytes = do
   parts ← ended (split 10 bytes)
   header ← lined 1 (header_verdict (header_at parts.0))
-  found ← lines_at header.0 header.1 256 2 header.2 parts.1
+  found ← lines_at header.0 header.1 whole_room 2 header.2 parts.1
   Ok (record { form = header.0; node = header.1; lines = found.0 }, found.1)
 
 -- a line of this peer's change, of the change's form and within the limits
@@ -112,11 +114,13 @@ pub record IsChange (change : Change) : Type 0 where
   pub named : 1 ≤ change.node
   pub known : change.node ≤ 65535
   pub some : 1 ≤ length change.lines
-  pub few : length (operations change) ≤ 256
+  pub few : count_of_lines change.lines ≤ 256
+  pub meant : length (operations change) ≤ 262144
   pub lines : AllByRecursion (IsLine change.form change.node) change.lines
 
--- `count` lines of this peer, which mean at most `room` operations
-pub record OwnLines (form : Form) (peer room count : ℕ) (found : List Line) : Type 0 where
+-- `count` lines of this peer, for which there is room
+pub record OwnLines (form : Form) (peer : ℕ) (room : Room) (count : ℕ) (found : List Line) : Type 0 where
   pub counted : length found ≡ count
-  pub few : length (ops_of_lines found) ≤ room
+  pub few : count_of_lines found ≤ room.operations
+  pub meant : length (ops_of_lines found) ≤ room.meant
   pub lines : AllByRecursion (IsLine form peer) found

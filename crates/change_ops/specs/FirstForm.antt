@@ -3,7 +3,7 @@ use Rattle.std.specs.Prelude.{◌≡◌, ℕ, ◌≤◌, List, [], ◌∷◌, �
 use Rattle.std.specs.Fmt.{decimal}
 use Rattle.std.specs.List.{AllByRecursion}
 use Rattle.change_ops.specs.Limits.{op_within, has_character}
-use Rattle.change_ops.specs.Operations.{id_of}
+use Rattle.change_ops.specs.Operations.{id_of, is_revival}
 use Rattle.change_ops.specs.Lines.{names_code}
 use Rattle.change_ops.specs.Changes.{Change, IsChange, operations}
 use Rattle.change_ops.specs.Spelling.{◌␣◌, op_text, change_text}
@@ -20,12 +20,13 @@ ops_text (op ∷ ops) = op_text op ++ 10 ∷ ops_text ops
 abbrev pub spelled_out : ℕ → List Op → Change
 spelled_out node ops = record { form = First; node = node; lines = map Operation ops }
 
--- an operation of this peer, within the limits, of another key than code
+-- an operation of this peer, within the limits, of another key than code, that takes no removal back
 pub record IsPlainOp (node : ℕ) (op : Op) : Type 0 where
   pub own : (id_of op).node ≡ node
   pub within : IsTrue (op_within op)
   pub character : IsTrue (has_character op)
   pub other : IsFalse (names_code op)
+  pub kept : IsFalse (is_revival op)
 
 -- 1 to 256 such operations
 pub record ArePlainOps (node : ℕ) (ops : List Op) : Type 0 where

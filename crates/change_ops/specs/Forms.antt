@@ -6,6 +6,7 @@ use Rattle.std.specs.Fmt.{digit_glyph}
 use Rattle.change_ops.specs.Ids.{OpId}
 use Rattle.change_ops.specs.Operations.{key_of}
 use Rattle.change_ops.specs.Runs.{Run}
+use Rattle.change_ops.specs.IdRuns.{IdRun}
 use Rattle.change_ops.specs.Lines.{has_line}
 use Rattle.change_ops.specs.Reading.{line_in, header_at}
 use Rattle.change_ops.specs.declared.attribute.Key.{Key}
@@ -15,11 +16,11 @@ use Rattle.change_ops.specs.declared.attribute.Attribute.TheVariants as attribut
 use Rattle.change_ops.specs.declared.operation.Anchor.{Anchor}
 use Rattle.change_ops.specs.declared.operation.Anchor.TheVariants.{TextStart, BeforeCharacter, AfterCharacter, TextEnd}
 use Rattle.change_ops.specs.declared.operation.Op.{Op}
-use Rattle.change_ops.specs.declared.operation.Op.TheVariants.{Insert, Remove, AddMark, RemoveMark}
+use Rattle.change_ops.specs.declared.operation.Op.TheVariants.{Insert, Remove, AddMark, RemoveMark, Revive}
 use Rattle.change_ops.specs.declared.line.Form.{Form}
 use Rattle.change_ops.specs.declared.line.Form.TheVariants as form
 use Rattle.change_ops.specs.declared.line.Line.{Line}
-use Rattle.change_ops.specs.declared.line.Line.TheVariants.{Operation, Run as RunLine}
+use Rattle.change_ops.specs.declared.line.Line.TheVariants.{Operation, Run as RunLine, Removals, Revivals}
 
 -- the sum of the digits, each times the base to the power of the number of digits behind it
 unfoldable pub digits_value : ℕ → List ℕ → ℕ
@@ -120,6 +121,7 @@ OpForm (Remove id target) = Word (codes "d") ⎵ IdForm id ⎵ IdForm target
 OpForm (AddMark id attribute start end) =
     Word (codes "m") ⎵ IdForm id ⎵ KeyForm (key_of attribute) ⎵ ValueForm attribute ⎵ AnchorForm start ⎵ AnchorForm end
 OpForm (RemoveMark id key start end) = Word (codes "u") ⎵ IdForm id ⎵ KeyForm key ⎵ AnchorForm start ⎵ AnchorForm end
+OpForm (Revive id removal) = Word (codes "v") ⎵ IdForm id ⎵ IdForm removal
 
 -- characters' codes with a space between them, at least one
 abbrev pub CharactersForm : List ℕ → List ℕ → Type 0
@@ -137,9 +139,15 @@ CountedForm (character ∷ characters) =
 abbrev pub RunForm : Run → List ℕ → Type 0
 RunForm run = Word (codes "r") ⎵ IdForm run.id ⎵ ParentForm run.parent ⎵ CountedForm run.characters
 
+-- the line of a run of removals or of revivals, by its letter
+abbrev pub IdRunForm : List ℕ → IdRun → List ℕ → Type 0
+IdRunForm letter run = Word letter ⎵ IdForm run.id ⎵ IdForm run.first ⎵ Numeral 10 run.count
+
 abbrev pub AnyForm : Line → List ℕ → Type 0
 AnyForm (Operation op) = OpForm op
 AnyForm (RunLine run) = RunForm run
+AnyForm (Removals run) = IdRunForm (codes "d") run
+AnyForm (Revivals run) = IdRunForm (codes "v") run
 
 -- a line of a change of this form, without its LF
 pub record LineForm (form : Form) (line : Line) (text : List ℕ) : Type 0 where
@@ -149,6 +157,7 @@ pub record LineForm (form : Form) (line : Line) (text : List ℕ) : Type 0 where
 abbrev pub FormWord : Form → List ℕ → Type 0
 FormWord form.First = Word (codes "change")
 FormWord form.Second = Word (codes "change2")
+FormWord form.Third = Word (codes "change3")
 
 -- a change's first line, without its LF
 abbrev pub HeaderForm : Form → ℕ → ℕ → List ℕ → Type 0

@@ -3,7 +3,9 @@ pub mod Attributes
 pub mod Operations
 pub mod Limits
 pub mod Runs
+pub mod IdRuns
 pub mod Lines
+pub mod Rooms
 pub mod Words
 pub mod Reading
 pub mod Changes

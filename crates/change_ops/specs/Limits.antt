@@ -9,7 +9,7 @@ use Rattle.change_ops.specs.declared.attribute.Attribute.TheVariants as attribut
 use Rattle.change_ops.specs.declared.operation.Anchor.{Anchor}
 use Rattle.change_ops.specs.declared.operation.Anchor.TheVariants.{TextStart, BeforeCharacter, AfterCharacter, TextEnd}
 use Rattle.change_ops.specs.declared.operation.Op.{Op}
-use Rattle.change_ops.specs.declared.operation.Op.TheVariants.{Insert, Remove, AddMark, RemoveMark}
+use Rattle.change_ops.specs.declared.operation.Op.TheVariants.{Insert, Remove, AddMark, RemoveMark, Revive}
 
 abbrev pub parent_within : Option OpId → Bool
 parent_within None = true
@@ -51,9 +51,11 @@ op_within (Insert id parent character) = within_limits id && parent_within paren
 op_within (Remove id target) = within_limits id && within_limits target
 op_within (AddMark id attribute start end) = within_limits id && marked_within (attribute, (start, end))
 op_within (RemoveMark id key start end) = within_limits id && unmarked_within (key, (start, end))
+op_within (Revive id removal) = within_limits id && within_limits removal
 
 abbrev pub has_character : Op → Bool
 has_character (Insert id parent character) = is_character character
 has_character (Remove id target) = true
 has_character (AddMark id attribute start end) = true
 has_character (RemoveMark id key start end) = true
+has_character (Revive id removal) = true

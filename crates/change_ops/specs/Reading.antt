@@ -1,16 +1,18 @@
 -- What a line spells, and the first fault of a line.
 use Rattle.std.specs.Prelude.{◌≡◌, ◌⊎◌, ℕ, zero, suc, nat_lt, nat_le, ◌==◌, ◌+◌, ◌^◌, ◌&&◌, ◌||◌, not, Bool, false}
 use Rattle.std.specs.Prelude.{if◌then◌else◌, List, [], ◌∷◌, ◌++◌, length, Option, Some, None, Result, Ok, Err}
-use Rattle.std.specs.Prelude.{option_and_then, codes}
+use Rattle.std.specs.Prelude.{option_and_then, is_some, codes}
 use Rattle.std.specs.List.{list_all}
 use Rattle.std.specs.Str.{bytes_eq}
 use Rattle.std.specs.Borrow.{Bor}
-use Rattle.change_ops.specs.Ids.{OpId, within_limits, is_character}
+use Rattle.change_ops.specs.Ids.{OpId, within_limits, is_character, checked}
 use Rattle.change_ops.specs.Attributes.{is_link_byte}
 use Rattle.change_ops.specs.Limits.{parent_within, op_within, has_character}
 use Rattle.change_ops.specs.Operations.{id_of}
 use Rattle.change_ops.specs.Runs.{Run, run_within, run_has_characters}
-use Rattle.change_ops.specs.Lines.{count_of, first_id, line_within, line_has_characters, has_line}
+use Rattle.change_ops.specs.IdRuns.{IdRun, id_run_within}
+use Rattle.change_ops.specs.Lines.{first_id, line_within, line_has_characters, has_line}
+use Rattle.change_ops.specs.Rooms.{line_fits}
 use Rattle.change_ops.specs.Words.{split, number_in, digits_after, saturated}
 use Rattle.change_ops.specs.declared.attribute.Key.{Key}
 use Rattle.change_ops.specs.declared.attribute.Key.TheVariants as key
@@ -19,11 +21,12 @@ use Rattle.change_ops.specs.declared.attribute.Attribute.TheVariants as attribut
 use Rattle.change_ops.specs.declared.operation.Anchor.{Anchor}
 use Rattle.change_ops.specs.declared.operation.Anchor.TheVariants.{TextStart, BeforeCharacter, AfterCharacter, TextEnd}
 use Rattle.change_ops.specs.declared.operation.Op.{Op}
-use Rattle.change_ops.specs.declared.operation.Op.TheVariants.{Insert, Remove, AddMark, RemoveMark}
+use Rattle.change_ops.specs.declared.operation.Op.TheVariants.{Insert, Remove, AddMark, RemoveMark, Revive}
 use Rattle.change_ops.specs.declared.line.Form.{Form}
-use Rattle.change_ops.specs.declared.line.Form.TheVariants.{First, Second}
+use Rattle.change_ops.specs.declared.line.Form.TheVariants.{First, Second, Third}
 use Rattle.change_ops.specs.declared.line.Line.{Line}
-use Rattle.change_ops.specs.declared.line.Line.TheVariants.{Operation, Run as RunLine}
+use Rattle.change_ops.specs.declared.line.Line.TheVariants.{Operation, Run as RunLine, Removals, Revivals}
+use Rattle.change_ops.specs.declared.room.Room.{Room}
 use Rattle.change_ops.specs.declared.refusal.LineFault.{LineFault}
 use Rattle.change_ops.specs.declared.refusal.LineFault.TheVariants.{BadLine, Limit, CharRefused, WrongPeer, OutOfMemory}
 
@@ -164,6 +167,13 @@ unmark_at fields = do
   unmarked ← unmarked_at first.1
   Some (RemoveMark id unmarked.0 unmarked.1.0 unmarked.1.1)
 
+unfoldable pub revive_at : List ℕ → Option Op
+revive_at fields = do
+  first ← split 32 fields
+  id ← id_at first.0
+  removal ← id_at first.1
+  Some (Revive id removal)
+
 -- the operation that a line spells, of numbers of any size
 unfoldable pub op_at : List ℕ → Option Op
 op_at line = do
@@ -171,7 +181,8 @@ op_at line = do
   if bytes_eq first.0 (codes "i") then insert_at first.1 else
       if bytes_eq first.0 (codes "d") then remove_at first.1 else
       if bytes_eq first.0 (codes "m") then mark_at first.1 else
-      if bytes_eq first.0 (codes "u") then unmark_at first.1 else None
+      if bytes_eq first.0 (codes "u") then unmark_at first.1 else
+      if bytes_eq first.0 (codes "v") then revive_at first.1 else None
 
 -- the codes of this number of characters with a space between them, at least one
 unfoldable pub characters_at : ℕ → List ℕ → Option (List ℕ)
@@ -203,15 +214,40 @@ run_at fields = do
   second ← split 32 first.1
   run_parts (id_at first.0) (parent_at second.0) (counted_at second.1)
 
--- a run, or an operation
+-- what of an option that is there passes a test
+abbrev pub given : {A : Type 0} → Option A → (A → Bool) → Bool
+given None test = false
+given (Some x) test = test x
+
+-- at least three words
+unfoldable pub is_counted : List ℕ → Bool
+is_counted fields = given (split 32 fields) (λ first. is_some (split 32 first.1))
+
+-- two ids, and the number of a run of such
+unfoldable pub id_run_at : List ℕ → Option IdRun
+id_run_at fields = do
+  words ← split 32 fields
+  others ← split 32 words.1
+  id ← id_at words.0
+  first ← id_at others.0
+  count ← number_in 10 others.1
+  Some (record { id = id; first = first; count = count })
+
+-- a run of characters, of removals or of revivals, or an operation
 unfoldable pub line_at : List ℕ → Option Line
 line_at line = do
   first ← split 32 line
   if bytes_eq first.0 (codes "r") then (do
     run ← run_at first.1
-    Some (RunLine run)) else (do
-      op ← op_at line
-      Some (Operation op))
+    Some (RunLine run)) else
+      if bytes_eq first.0 (codes "d") && is_counted first.1 then (do
+        run ← id_run_at first.1
+        Some (Removals run)) else
+      if bytes_eq first.0 (codes "v") && is_counted first.1 then (do
+        run ← id_run_at first.1
+        Some (Revivals run)) else (do
+          op ← op_at line
+          Some (Operation op))
 
 -- the same, where the form of the change has such lines
 abbrev pub line_in : Form → List ℕ → Option Line
@@ -223,7 +259,8 @@ line_in form text = do
 abbrev pub form_at : List ℕ → Option Form
 form_at word =
     if bytes_eq word (codes "change") then Some First else
-    if bytes_eq word (codes "change2") then Some Second else None
+    if bytes_eq word (codes "change2") then Some Second else
+    if bytes_eq word (codes "change3") then Some Third else None
 
 -- the form, the node and the count of a change's first line
 unfoldable pub header_at : List ℕ → Option (Form × ℕ × ℕ)
@@ -289,7 +326,7 @@ op_verdict peer (Some op) = op_judged peer op
 abbrev pub own_run : ℕ → Run → Result Run LineFault
 own_run peer run = if run.id.node == peer then Ok run else Err WrongPeer
 
--- a run of a peer's change with room for `room` operations, or the first fault
+-- a run of a peer's change with room for `room` characters, or the first fault
 abbrev pub run_judged : ℕ → ℕ → Run → Result Run LineFault
 run_judged peer room run =
     if not (run_within run && nat_le (length run.characters) room) then Err Limit else
@@ -304,15 +341,46 @@ run_verdict peer room (Some run) = run_judged peer room run
 abbrev pub run_verdict_in : Form → ℕ → ℕ → Option Run → Result Run LineFault
 run_verdict_in First peer room run = Err BadLine
 run_verdict_in Second peer room run = run_verdict peer room run
+run_verdict_in Third peer room run = run_verdict peer room run
 
--- a line of a peer's change with room for `room` operations, or the first fault
-abbrev pub judged : ℕ → ℕ → Line → Result Line LineFault
+-- a run of removals or of revivals of a peer's change with this room, or the first fault
+abbrev pub id_run_fits : Room → IdRun → Bool
+id_run_fits room run = nat_le 1 room.operations && nat_le run.count room.meant
+
+abbrev pub id_run_judged : ℕ → Room → IdRun → Result IdRun LineFault
+id_run_judged peer room run =
+    if not (id_run_within run && id_run_fits room run) then Err Limit else
+    if run.id.node == peer then Ok run else Err WrongPeer
+
+abbrev pub id_run_verdict : ℕ → Room → Option IdRun → Result IdRun LineFault
+id_run_verdict peer room None = Err BadLine
+id_run_verdict peer room (Some run) = id_run_judged peer room run
+
+-- the same in a change of this form
+abbrev pub id_run_verdict_in : Form → ℕ → Room → Option IdRun → Result IdRun LineFault
+id_run_verdict_in First peer room run = Err BadLine
+id_run_verdict_in Second peer room run = Err BadLine
+id_run_verdict_in Third peer room run = id_run_verdict peer room run
+
+-- the run of a number and two ids that were read
+abbrev pub id_run_limited : ℕ → Room → Option IdRun → Result IdRun LineFault
+id_run_limited peer room None = Err Limit
+id_run_limited peer room (Some run) = id_run_judged peer room run
+
+abbrev pub id_run_made : ℕ → Room → Result ℕ LineFault → Result (OpId × OpId) LineFault → Result IdRun LineFault
+id_run_made peer room (Err fault) ids = Err fault
+id_run_made peer room (Ok count) (Err fault) = Err fault
+id_run_made peer room (Ok count) (Ok ids) =
+    id_run_limited peer room (checked id_run_within (record { id = ids.0; first = ids.1; count = count }))
+
+-- a line of a peer's change with this room, or the first fault
+abbrev pub judged : ℕ → Room → Line → Result Line LineFault
 judged peer room line =
-    if not (line_within line && nat_le (count_of line) room) then Err Limit else
+    if not (line_within line && line_fits room line) then Err Limit else
     if not (line_has_characters line) then Err CharRefused else
     if (first_id line).node == peer then Ok line else Err WrongPeer
 
-abbrev pub line_verdict : ℕ → ℕ → Option Line → Result Line LineFault
+abbrev pub line_verdict : ℕ → Room → Option Line → Result Line LineFault
 line_verdict peer room None = Err BadLine
 line_verdict peer room (Some line) = judged peer room line
 
@@ -329,11 +397,6 @@ ReadsAs view (Err CharRefused) wanted = wanted ≡ Err CharRefused
 ReadsAs view (Err WrongPeer) wanted = wanted ≡ Err WrongPeer
 ReadsAs view (Err OutOfMemory) wanted = Unit {0}
 
--- what of an option that is there passes a test
-abbrev pub given : {A : Type 0} → Option A → (A → Bool) → Bool
-given None test = false
-given (Some x) test = test x
-
 -- the line of a mark, or of a removal of one, that names the key code
 unfoldable pub is_of_code : List ℕ → Bool
 is_of_code line =
@@ -342,10 +405,15 @@ is_of_code line =
     (λ second. given (split 32 second.1) (λ third. (bytes_eq first.0 (codes "m") || bytes_eq first.0 (codes "u"))
     && bytes_eq third.0 (codes "code"))))
 
+-- the line of an operation that takes a removal back
+unfoldable pub is_of_revival : List ℕ → Bool
+is_of_revival line = given (split 32 line) (λ first. bytes_eq first.0 (codes "v"))
+
 -- a line that a change of this form has not, though it may be one of an operation
 abbrev pub lacks_line : Form → List ℕ → Bool
-lacks_line First line = is_of_code line
-lacks_line Second line = false
+lacks_line First line = is_of_code line || is_of_revival line
+lacks_line Second line = is_of_revival line
+lacks_line Third line = false
 
 -- an operation's line of a peer's change of this form with room for `room` operations
 abbrev pub op_verdict_in : Form → ℕ → ℕ → Option Op → Result Op LineFault

@@ -4,6 +4,7 @@ use Rattle.std.specs.Prelude.{Result, Ok, Err, codes}
 use Rattle.std.specs.Fmt.{decimal, digits, digit_glyph}
 use Rattle.change_ops.specs.Ids.{OpId}
 use Rattle.change_ops.specs.Runs.{Run}
+use Rattle.change_ops.specs.IdRuns.{IdRun}
 use Rattle.change_ops.specs.Changes.{Change, IsChange}
 use Rattle.change_ops.specs.declared.attribute.Key.{Key}
 use Rattle.change_ops.specs.declared.attribute.Key.TheVariants as key
@@ -12,11 +13,11 @@ use Rattle.change_ops.specs.declared.attribute.Attribute.TheVariants as attribut
 use Rattle.change_ops.specs.declared.operation.Anchor.{Anchor}
 use Rattle.change_ops.specs.declared.operation.Anchor.TheVariants.{TextStart, BeforeCharacter, AfterCharacter, TextEnd}
 use Rattle.change_ops.specs.declared.operation.Op.{Op}
-use Rattle.change_ops.specs.declared.operation.Op.TheVariants.{Insert, Remove, AddMark, RemoveMark}
+use Rattle.change_ops.specs.declared.operation.Op.TheVariants.{Insert, Remove, AddMark, RemoveMark, Revive}
 use Rattle.change_ops.specs.declared.line.Form.{Form}
-use Rattle.change_ops.specs.declared.line.Form.TheVariants.{First, Second}
+use Rattle.change_ops.specs.declared.line.Form.TheVariants.{First, Second, Third}
 use Rattle.change_ops.specs.declared.line.Line.{Line}
-use Rattle.change_ops.specs.declared.line.Line.TheVariants.{Operation, Run as RunLine}
+use Rattle.change_ops.specs.declared.line.Line.TheVariants.{Operation, Run as RunLine, Removals, Revivals}
 use Rattle.change_ops.specs.declared.refusal.ChangeError.{ChangeError}
 use Rattle.change_ops.specs.declared.refusal.ChangeError.TheVariants.{BadLine, Truncated, Limit, CharRefused, WrongPeer}
 use Rattle.change_ops.specs.declared.refusal.ChangeError.TheVariants.{OutOfMemory}
@@ -72,6 +73,7 @@ op_text (Remove id target) = codes "d" ␣ id_text id ␣ id_text target
 op_text (AddMark id attribute start end) =
     codes "m" ␣ id_text id ␣ attribute_text attribute ␣ anchor_text start ␣ anchor_text end
 op_text (RemoveMark id key start end) = codes "u" ␣ id_text id ␣ key_text key ␣ anchor_text start ␣ anchor_text end
+op_text (Revive id removal) = codes "v" ␣ id_text id ␣ id_text removal
 
 -- characters' codes, each behind a space
 unfoldable pub codes_text : List ℕ → List ℕ
@@ -83,9 +85,15 @@ abbrev pub run_text : Run → List ℕ
 run_text run =
     codes "r" ␣ id_text run.id ␣ parent_text run.parent ␣ decimal (length run.characters) ++ codes_text run.characters
 
+-- the line of a run of removals or of revivals, by its letter
+abbrev pub id_run_text : List ℕ → IdRun → List ℕ
+id_run_text letter run = letter ␣ id_text run.id ␣ id_text run.first ␣ decimal run.count
+
 abbrev pub line_text : Line → List ℕ
 line_text (Operation op) = op_text op
 line_text (RunLine run) = run_text run
+line_text (Removals run) = id_run_text (codes "d") run
+line_text (Revivals run) = id_run_text (codes "v") run
 
 unfoldable pub lines_text : List Line → List ℕ
 lines_text [] = []
@@ -94,6 +102,7 @@ lines_text (line ∷ lines) = line_text line ++ 10 ∷ lines_text lines
 abbrev pub form_text : Form → List ℕ
 form_text First = codes "change"
 form_text Second = codes "change2"
+form_text Third = codes "change3"
 
 abbrev pub header_text : Change → List ℕ
 header_text change = form_text change.form ␣ decimal change.node ␣ decimal (length change.lines)

@@ -1,8 +1,9 @@
 //! A change, and reading it from its text.
-ghost use Rattle.std.specs.Prelude.{◌≡◌, ◌⊎◌, List, ℕ, ◌<◌, ◌≤◌, IfOk, IfErr, Ok, Err, length};
+ghost use Rattle.std.specs.Prelude.{◌≡◌, ◌⊎◌, List, ℕ, ◌<◌, ◌≤◌, IfOk, IfErr, IsTrue, Ok, Err, length};
 ghost use Rattle.std.specs.Str.{IsUtf8};
 ghost use Rattle.change_ops.specs.Reading.{header_at, form_at, formed};
-ghost use Rattle.change_ops.specs.Lines.{count_of};
+ghost use Rattle.change_ops.specs.Lines.{ops_of_lines};
+ghost use Rattle.change_ops.specs.Rooms.{whole_room, line_fits};
 ghost use Rattle.change_ops.specs.Forms.{LinesAreForms, HeadersAreForms};
 ghost use Rattle.change_ops.specs.FirstForm.{FirstFormIsPlain};
 ghost use Rattle.change_ops.specs.Refusals.{IsRefused};
@@ -15,12 +16,13 @@ use crate::line::{Form, Line};
 use crate::line_reading::line_of_change;
 use crate::numbers::{line_of, number, word_of};
 use crate::refusal::{ChangeError, LineFault};
+use crate::room::Room;
 use smallvec::SmallVec;
 use std::alloc::Global;
 use std::marker::Model;
 
 /// Operations of one peer, which are accepted together: 1 to 256, the id of each with the peer's node.
-/// They stand in lines, of which one may mean many operations.
+/// They stand in lines, of which one may mean many operations: at most 262,144 in all.
 pub struct Change {
     form: Form,
     node: u16,
@@ -48,7 +50,7 @@ impl Model for Change {
 }
 
 impl Change {
-    ghost use Rattle.change_ops.specs.Changes.{IsChange};
+    ghost use Rattle.change_ops.specs.Changes.{IsChange, operations};
 
     /// The form of the text that spells the change.
     pub fn form(&self) -> Form
@@ -72,6 +74,26 @@ impl Change {
     {
         self.lines.as_slice()
     }
+
+    /// How many operations the lines mean.
+    pub fn operation_count(&self) -> usize
+        ensures value { result ≡ length (operations self.now) }
+        ensures limit { result ≤ 262144 }
+    {
+        meant_by(self.lines())
+    }
+}
+
+/// How many operations lines mean.
+fn meant_by(lines: &[Line]) -> usize
+    requires { length (ops_of_lines lines.now) ≤ 262144 }
+    ensures { result ≡ length (ops_of_lines lines.now) }
+{
+    let mut meant = 0;
+    for line in lines {
+        meant += line.meant();
+    }
+    meant
 }
 
 fn at_line(line: usize, fault: LineFault) -> ChangeError
@@ -86,19 +108,19 @@ fn at_line(line: usize, fault: LineFault) -> ChangeError
     }
 }
 
-/// The line of this number of a peer's change, with room for `room` operations, and what follows it.
+/// The line of this number of a peer's change with this room, and what follows it.
 #[tactic(auto, unfolding(crate::specs::Changes::next_at))]
 fn next_line(
     alloc: Global,
     form: Form,
     peer: u16,
-    room: usize,
+    room: Room,
     number: usize,
     text: &str,
 ) -> Result<(Line, &str), ChangeError>
-    requires { room ≤ 256 }
+    requires { room.operations ≤ 256 }
     ensures read { Gives (λ x. (x.0, x.1.now)) result (next_at form peer room number text.now) }
-    ensures fits { IfOk result (λ x. count_of x.0 ≤ room) }
+    ensures fits { IfOk result (λ x. IsTrue (line_fits room x.0)) }
     ensures text { IfOk result (λ x. IsUtf8 x.1.now) }
 {
     let Some((words, rest)) = line_of(text) else {
@@ -119,16 +141,16 @@ fn lines_of(
     text: &str,
 ) -> Result<(SmallVec<Line, 1>, &str), ChangeError>
     requires { count ≤ 256 }
-    ensures read { Gives (λ x. (x.0.items, x.1.now)) result (lines_at form peer 256 2 count text.now) }
-    ensures kept { IfOk result (λ x. OwnLines form peer 256 count x.0.items) }
+    ensures read { Gives (λ x. (x.0.items, x.1.now)) result (lines_at form peer whole_room 2 count text.now) }
+    ensures kept { IfOk result (λ x. OwnLines form peer whole_room count x.0.items) }
     ensures text { IfOk result (λ x. IsUtf8 x.1.now) }
 {
     let mut lines: SmallVec<Line, 1> = SmallVec::with_capacity(alloc, count)?;
     let mut rest: &str = text;
-    let mut room = 256;
+    let mut room = Room::whole();
     for index in 0..count {
         let (line, after) = next_line(alloc, form, peer, room, index + 2, rest)?;
-        room -= line.count();
+        room = room.behind(&line);
         lines.push(line)?;
         rest = after;
     }
@@ -143,6 +165,8 @@ fn form_of(word: &str) -> Result<Form, LineFault>
         Ok(Form::First)
     } else if word == "change2" {
         Ok(Form::Second)
+    } else if word == "change3" {
+        Ok(Form::Third)
     } else {
         Err(LineFault::BadLine)
     }

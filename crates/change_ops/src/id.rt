@@ -3,6 +3,7 @@ ghost use Rattle.std.proofs.Common.{rules};
 ghost use Rattle.std.specs.Cmp.{partial_order_from_own_ties};
 ghost use Rattle.std.specs.Cmp.Rules.{comparing};
 ghost use Rattle.std.specs.Ordering.{as_partial_cmp};
+ghost use Rattle.change_ops.specs.IdRuns.{later_id};
 ghost use Rattle.change_ops.specs.Ids.{IsId, Less, id_cmp, ComparesIds, within_limits, checked};
 
 use std::cmp::Ordering;
@@ -104,7 +105,7 @@ impl OpId {
     /// The id of the same peer whose counter is greater by `by`.
     pub(crate) fn later(self, by: usize) -> Self
         requires { self.counter + by < 2 ^ 48 }
-        ensures { result ≡ record { counter = self.counter + by; node = self.node } }
+        ensures { result ≡ later_id self by }
     {
         OpId {
             counter: self.counter + by as u64,

@@ -1,23 +1,28 @@
 //! The lines of a change.
-ghost use Rattle.std.specs.Prelude.{◌≡◌, ◌≤◌};
-ghost use Rattle.change_ops.specs.Lines.{count_of};
+ghost use Rattle.std.specs.Prelude.{◌≡◌, ◌≤◌, length};
+ghost use Rattle.change_ops.specs.Lines.{ops_of, count_of};
 
+use crate::id_run::IdRun;
 use crate::operation::Op;
 use crate::run::Run;
 use std::alloc::Global;
 use std::default::MadeWith;
 
-/// The form of a change: the second has lines that the first has not, runs and those of the key code.
+/// The form of a change: the second has lines that the first has not, runs and those of the key code, and the third
+/// also those that take removals back and runs of removals.
 #[derive(Clone, Copy, PartialEq, Eq)]
 pub enum Form {
     First,
     Second,
+    Third,
 }
 
-/// A line of a change: one operation, or the inserts of a run.
+/// A line of a change: one operation, the inserts of a run, or a run of removals or of revivals.
 pub enum Line {
     Operation(Op),
     Run(Run),
+    Removals(IdRun),
+    Revivals(IdRun),
 }
 
 impl Drop for Line {
@@ -25,6 +30,8 @@ impl Drop for Line {
         match self {
             Line::Operation(_) => {}
             Line::Run(_) => {}
+            Line::Removals(_) => {}
+            Line::Revivals(_) => {}
         }
     }
 }
@@ -42,7 +49,7 @@ impl MadeWith<Global> for Line {
 }
 
 impl Line {
-    /// How many operations the line means.
+    /// How many of a change's 256 operations the line is.
     pub fn count(&self) -> usize
         ensures value { result ≡ count_of self.now }
         ensures limit { result ≤ 256 }
@@ -50,6 +57,20 @@ impl Line {
         match self {
             Line::Operation(_) => 1,
             Line::Run(run) => run.characters().len(),
+            Line::Removals(_) | Line::Revivals(_) => 1,
+        }
+    }
+
+    /// How many operations the line means.
+    pub fn meant(&self) -> usize
+        ensures value { result ≡ length (ops_of self.now) }
+        ensures limit { result ≤ 65535 }
+    {
+        match self {
+            Line::Operation(_) => 1,
+            Line::Run(run) => run.characters().len(),
+            Line::Removals(run) => run.count() as usize,
+            Line::Revivals(run) => run.count() as usize,
         }
     }
 }

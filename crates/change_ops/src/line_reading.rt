@@ -1,15 +1,21 @@
 //! The lines of a change.
 ghost use Rattle.std.specs.Prelude.{◌≡◌, ◌≤◌};
-ghost use Rattle.change_ops.specs.Reading.{insert_at, remove_at, mark_at, unmark_at, op_at, owned as owned_verdict};
+ghost use Rattle.change_ops.specs.Reading.{insert_at, remove_at, mark_at, unmark_at, revive_at, op_at};
+ghost use Rattle.change_ops.specs.Reading.{owned as owned_verdict};
 ghost use Rattle.change_ops.specs.Reading.{op_verdict, op_verdict_in, unless_formless, is_of_code as is_of_code_line};
+ghost use Rattle.change_ops.specs.Reading.{is_of_revival as is_of_revival_line};
 ghost use Rattle.change_ops.specs.Reading.{lacks_line as is_lacking, run_at, run_verdict_in, line_in, line_verdict};
+ghost use Rattle.change_ops.specs.Reading.{id_run_at, id_run_verdict_in};
 ghost use Rattle.change_ops.specs.Reading.{Reads};
 
 use crate::fields::{anchors_of, attribute_of, both, character_of, id_of, key_of, parent_of};
+use crate::id_run::IdRun;
+use crate::id_run_reading::{id_run_of, is_run};
 use crate::line::{Form, Line};
 use crate::numbers::word_of;
 use crate::operation::Op;
 use crate::refusal::LineFault;
+use crate::room::Room;
 use crate::run::Run;
 use crate::run_reading::run_of;
 use std::alloc::Global;
@@ -91,6 +97,15 @@ fn unmark_of(peer: u16, fields: &str) -> Result<Op, LineFault>
     )
 }
 
+#[tactic(auto, unfolding(crate::specs::Reading::revive_at))]
+fn revive_of(peer: u16, fields: &str) -> Result<Op, LineFault>
+    ensures { result ≡ op_verdict peer (revive_at fields.now) }
+{
+    let (id, removal) = word_of(fields)?;
+    let (id, removal) = both(id_of(id), id_of(removal))?;
+    owned(peer, Op::Revive { id, removal })
+}
+
 /// The operation of a line of a peer's change, or the line's first fault.
 #[tactic(auto, unfolding(crate::specs::Reading::op_at))]
 fn op_of(alloc: Global, peer: u16, line: &str) -> Result<Op, LineFault>
@@ -105,6 +120,8 @@ fn op_of(alloc: Global, peer: u16, line: &str) -> Result<Op, LineFault>
         mark_of(alloc, peer, fields)
     } else if kind == "u" {
         unmark_of(peer, fields)
+    } else if kind == "v" {
+        revive_of(peer, fields)
     } else {
         Err(LineFault::BadLine)
     }
@@ -139,13 +156,25 @@ fn is_of_code(line: &str) -> bool
     (kind == "m" || kind == "u") && key == "code"
 }
 
+/// Whether a line takes a removal back.
+#[tactic(auto, unfolding(crate::specs::Reading::is_of_revival))]
+fn is_of_revival(line: &str) -> bool
+    ensures { result ≡ is_of_revival_line line.now }
+{
+    let Ok((kind, _)) = word_of(line) else {
+        return false;
+    };
+    kind == "v"
+}
+
 /// Whether a change of this form has no such line, though it may be one of an operation.
 fn lacks_line(form: Form, line: &str) -> bool
     ensures { result ≡ is_lacking form line.now }
 {
     match form {
-        Form::First => is_of_code(line),
-        Form::Second => false,
+        Form::First => is_of_code(line) || is_of_revival(line),
+        Form::Second => is_of_revival(line),
+        Form::Third => false,
     }
 }
 
@@ -164,34 +193,53 @@ fn op_in(alloc: Global, form: Form, peer: u16, room: usize, line: &str) -> Resul
     read
 }
 
-/// The run of a line of a peer's change of this form, with room for `room` operations, or the line's first fault.
+/// The run of a line of a peer's change of this form, with room for `room` characters, or the line's first fault.
 fn run_in(alloc: Global, form: Form, peer: u16, room: usize, fields: &str) -> Result<Run, LineFault>
     requires { room ≤ 256 }
     ensures { Reads result (run_verdict_in form peer room (run_at fields.now)) }
 {
     match form {
         Form::First => Err(LineFault::BadLine),
-        Form::Second => run_of(alloc, peer, room, fields),
+        Form::Second | Form::Third => run_of(alloc, peer, room, fields),
     }
 }
 
-/// The line of a peer's change of this form, with room for `room` operations, or the line's first fault.
+/// The run of removals or of revivals of a line of a peer's change of this form with this room, or the line's first
+/// fault.
+fn id_run_in(form: Form, peer: u16, room: Room, fields: &str) -> Result<IdRun, LineFault>
+    ensures { result ≡ id_run_verdict_in form peer room (id_run_at fields.now) }
+{
+    match form {
+        Form::First | Form::Second => Err(LineFault::BadLine),
+        Form::Third => id_run_of(peer, room, fields),
+    }
+}
+
+/// The line of a peer's change of this form with this room, or the line's first fault.
 #[tactic(auto, unfolding(crate::specs::Reading::line_at))]
 pub fn line_of_change(
     alloc: Global,
     form: Form,
     peer: u16,
-    room: usize,
+    room: Room,
     line: &str,
 ) -> Result<Line, LineFault>
-    requires { room ≤ 256 }
+    requires { room.operations ≤ 256 }
     ensures { Reads result (line_verdict peer room (line_in form line.now)) }
 {
     let (kind, fields) = word_of(line)?;
     if kind == "r" {
-        let run = run_in(alloc, form, peer, room, fields)?;
+        let run = run_in(alloc, form, peer, room.single(), fields)?;
         return Ok(Line::Run(run));
     }
-    let op = op_in(alloc, form, peer, room, line)?;
+    if is_run("d", kind, fields) {
+        let removals = id_run_in(form, peer, room, fields)?;
+        return Ok(Line::Removals(removals));
+    }
+    if is_run("v", kind, fields) {
+        let revivals = id_run_in(form, peer, room, fields)?;
+        return Ok(Line::Revivals(revivals));
+    }
+    let op = op_in(alloc, form, peer, room.single(), line)?;
     Ok(Line::Operation(op))
 }

@@ -42,6 +42,11 @@ pub enum Op {
         start: Anchor,
         end: Anchor,
     },
+    /// A removal is taken back.
+    Revive {
+        id: OpId,
+        removal: OpId,
+    },
 }
 
 impl Drop for Op {
@@ -65,6 +70,7 @@ impl Drop for Op {
                 start: _,
                 end: _,
             } => {}
+            Op::Revive { id: _, removal: _ } => {}
         }
     }
 }
@@ -132,6 +138,10 @@ impl Clone for Op {
                 start: *start,
                 end: *end,
             }),
+            Op::Revive { id, removal } => Ok(Op::Revive {
+                id: *id,
+                removal: *removal,
+            }),
         }
     }
 }
@@ -162,6 +172,7 @@ impl Op {
             Op::Remove { id, .. } => *id,
             Op::AddMark { id, .. } => *id,
             Op::RemoveMark { id, .. } => *id,
+            Op::Revive { id, .. } => *id,
         }
     }
 
@@ -172,7 +183,7 @@ impl Op {
         matches!(self, Op::Insert { .. })
     }
 
-    /// How many bytes of text the operation adds, as UTF-8.
+    /// How many bytes the character of an insert has, as UTF-8; any other operation has none.
     pub fn byte_count(&self) -> usize
         ensures { result ≡ bytes_of self.now }
     {
@@ -181,6 +192,7 @@ impl Op {
             Op::Remove { .. } => 0,
             Op::AddMark { .. } => 0,
             Op::RemoveMark { .. } => 0,
+            Op::Revive { .. } => 0,
         }
     }
 
@@ -213,6 +225,10 @@ impl Op {
             Op::RemoveMark { start, end, .. } => Named {
                 first: start.character(),
                 second: end.character(),
+            },
+            Op::Revive { .. } => Named {
+                first: None,
+                second: None,
             },
         }
     }

@@ -2,13 +2,14 @@
 ghost use Rattle.std.specs.Prelude.{◌≡◌, ◌++◌, [], ◌∷◌, OnOk, OnErr};
 ghost use Rattle.std.specs.String.{string_bytes};
 ghost use Rattle.change_ops.specs.Spelling.{◌␣◌, id_text, parent_text, anchor_text, key_text, attribute_text, op_text};
-ghost use Rattle.change_ops.specs.Spelling.{codes_text, run_text, line_text, lines_text, form_text, header_text};
-ghost use Rattle.change_ops.specs.Spelling.{change_text};
+ghost use Rattle.change_ops.specs.Spelling.{codes_text, run_text, id_run_text, line_text, lines_text};
+ghost use Rattle.change_ops.specs.Spelling.{form_text, header_text, change_text};
 
 use crate::attribute::{Attribute, Key};
 use crate::change::Change;
 use crate::character::Character;
 use crate::id::OpId;
+use crate::id_run::IdRun;
 use crate::line::{Form, Line};
 use crate::operation::{Anchor, Op};
 use crate::run::Run;
@@ -140,6 +141,13 @@ fn write_unmark(
     write_anchors(start, end, out)
 }
 
+fn write_revive(id: OpId, removal: OpId, out: &mut String) -> Result<(), AllocError>
+    ensures { OnOk result (string_bytes out.new ≡ string_bytes out.old ++ op_text (Op.Revive id removal)) }
+{
+    write_front("v", id, out)?;
+    write_id(removal, out)
+}
+
 fn write_op(op: &Op, out: &mut String) -> Result<(), AllocError>
     ensures { OnOk result (string_bytes out.new ≡ string_bytes out.old ++ op_text op.now) }
 {
@@ -162,6 +170,7 @@ fn write_op(op: &Op, out: &mut String) -> Result<(), AllocError>
             start,
             end,
         } => write_unmark(*id, *key, *start, *end, out),
+        Op::Revive { id, removal } => write_revive(*id, *removal, out),
     }
 }
 
@@ -184,12 +193,23 @@ fn write_run(run: &Run, out: &mut String) -> Result<(), AllocError>
     write_codes(run.characters(), out)
 }
 
+/// A run of removals or of revivals, by the letter of its kind.
+fn write_id_run(kind: &str, run: IdRun, out: &mut String) -> Result<(), AllocError>
+    ensures { OnOk result (string_bytes out.new ≡ string_bytes out.old ++ id_run_text kind.now run) }
+{
+    write_front(kind, run.id(), out)?;
+    write_id(run.first(), out)?;
+    write!(out, " {}", run.count())
+}
+
 fn write_line(line: &Line, out: &mut String) -> Result<(), AllocError>
     ensures { OnOk result (string_bytes out.new ≡ string_bytes out.old ++ line_text line.now) }
 {
     match line {
         Line::Operation(op) => write_op(op, out),
         Line::Run(run) => write_run(run, out),
+        Line::Removals(run) => write_id_run("d", *run, out),
+        Line::Revivals(run) => write_id_run("v", *run, out),
     }
 }
 
@@ -211,6 +231,7 @@ fn word_of(form: Form) -> &'static str
     match form {
         Form::First => "change",
         Form::Second => "change2",
+        Form::Third => "change3",
     }
 }
 

@@ -1,5 +1,5 @@
 -- The index from ids to chunks, as elements are put in, hidden, and chunks split.
-use Rattle.std.proofs.Common.{◌≡◌, ◌≢◌, ℕ, zero, suc, ◌+◌, ◌-◌, ◌<◌, ◌≤◌, true, false, List, [], ◌∷◌, ◌++◌, Option, Some, None, get_or, is_some, IsSome, inl, inr, ◌⊎◌, length, set, take, drop, sym, ap, refl, ◌∙◌, subst, arith, ⊎_elim}
+use Rattle.std.proofs.Common.{◌≡◌, ◌≢◌, ℕ, zero, suc, ◌+◌, ◌-◌, ◌<◌, ◌≤◌, Bool, true, false, List, [], ◌∷◌, ◌++◌, Option, Some, None, get_or, is_some, IsSome, inl, inr, ◌⊎◌, length, set, take, drop, sym, ap, refl, ◌∙◌, subst, arith, ⊎_elim}
 use Rattle.std.proofs.Math.ListN.{length-set}
 use Rattle.std.specs.List.{slice_get, insert}
 use Rattle.std.specs.Option.{MatchOption}
@@ -329,25 +329,26 @@ pub put_joined : (cs ds : List (List Element)) (p at place : ℕ) (e : Element) 
 put_joined cs ds p at place e c here h is new =
     ap joined (new c here) ∙ joined_insert cs p c (insert c at e) at e here h refl ∙ ap (λ n. insert (joined cs) n e) (sym is)
 
-abbrev pub hidden : Element → Element
-hidden x = record { id = x.id; character = x.character; visible = false }
+-- the element as it is hidden or shown
+abbrev pub marked : Bool → Element → Element
+marked v x = record { id = x.id; character = x.character; visible = v }
 
-pub kept_hidden : (cs : List (List Element)) (names : List ℕ) (index : OpId → Option ℕ) (p at count : ℕ) (id : OpId) (d d' : List Element) → IsKept cs names index count → IsSpotOf cs id p at → slice_get cs p ≡ Some d → ((x : Element) → slice_get d at ≡ Some x → d' ≡ set d at (hidden x)) → IsKept (set cs p d') names index count
-kept_hidden cs names index p at count id d d' ok spot here new =
+pub kept_marked : (v : Bool) (cs : List (List Element)) (names : List ℕ) (index : OpId → Option ℕ) (p at count : ℕ) (id : OpId) (d d' : List Element) → IsKept cs names index count → IsSpotOf cs id p at → slice_get cs p ≡ Some d → ((x : Element) → slice_get d at ≡ Some x → d' ≡ set d at (marked v x)) → IsKept (set cs p d') names index count
+kept_marked v cs names index p at count id d d' ok spot here new =
     let same : spot.chunk ≡ d = same_Some spot.chunk d (sym spot.here ∙ here) in
     let x = spot.has.0 in
     let g : slice_get d at ≡ Some x = ap (λ z. slice_get z at) (sym same) ∙ spot.has.1 in
     let is = new x g in
     let low = slice_get_within d at x g in
-    let size : length (joined (set cs p d')) ≡ length (joined cs) = ap length (joined_set cs p d d' at (hidden x) here low is) ∙ length-set (joined cs) (start_of cs p + at) (hidden x) in
+    let size : length (joined (set cs p d')) ≡ length (joined cs) = ap length (joined_set cs p d d' at (marked v x) here low is) ∙ length-set (joined cs) (start_of cs p + at) (marked v x) in
     record {
-      indexed = subst (λ z. IsIndexed (set cs p z) names index) (sym is) (indexed_changed cs names index p d at x (hidden x) ok.indexed here g refl);
+      indexed = subst (λ z. IsIndexed (set cs p z) names index) (sym is) (indexed_changed cs names index p d at x (marked v x) ok.indexed here g refl);
       counted = ok.counted ∙ sym size;
       few = let old = ok.few in omega (arith, size, old);
     }
 
-pub hidden_joined : (cs : List (List Element)) (p at : ℕ) (id : OpId) (d d' : List Element) → IsSpotOf cs id p at → slice_get cs p ≡ Some d → ((x : Element) → slice_get d at ≡ Some x → d' ≡ set d at (hidden x)) → (place : ℕ) × IsAt (joined cs) id place × ((x : Element) → slice_get (joined cs) place ≡ Some x → joined (set cs p d') ≡ set (joined cs) place (hidden x))
-hidden_joined cs p at id d d' spot here new =
+pub marked_joined : (v : Bool) (cs : List (List Element)) (p at : ℕ) (id : OpId) (d d' : List Element) → IsSpotOf cs id p at → slice_get cs p ≡ Some d → ((x : Element) → slice_get d at ≡ Some x → d' ≡ set d at (marked v x)) → (place : ℕ) × IsAt (joined cs) id place × ((x : Element) → slice_get (joined cs) place ≡ Some x → joined (set cs p d') ≡ set (joined cs) place (marked v x))
+marked_joined v cs p at id d d' spot here new =
     let same : spot.chunk ≡ d = same_Some spot.chunk d (sym spot.here ∙ here) in
     let y = spot.has.0 in
     let g : slice_get d at ≡ Some y = ap (λ z. slice_get z at) (sym same) ∙ spot.has.1 in
@@ -356,7 +357,7 @@ hidden_joined cs p at id d d' spot here new =
       spot_place cs id p at spot,
       λ x here'.
           let one : y ≡ x = same_Some y x (sym g ∙ sym (joined_get cs p d at here low) ∙ here') in
-          joined_set cs p d d' at (hidden x) here low (new x (g ∙ ap Some one)),
+          joined_set cs p d d' at (marked v x) here low (new x (g ∙ ap Some one)),
     )
 
 pub kept_first : (cs ds : List (List Element)) (names names' : List ℕ) (index more : OpId → Option ℕ) (count : ℕ) (d : List Element) (e : Element) → IsKept cs names index count → cs ≡ [] → names' ≡ 0 ∷ [] → ds ≡ cs ++ d ∷ [] → d ≡ e ∷ [] → more e.id ≡ Some 0 → ((q : OpId) → same_id e.id q ≡ false → more q ≡ index q) → IsKept ds names' more 1

@@ -1,11 +1,11 @@
 -- What a map of last counters says of the operations.
 use Rattle.std.proofs.Common.{◌≡◌, ℕ, ◌<◌, ◌≤◌, true, false, cond, List, [], ◌∷◌, ◌++◌, Option, Some, None, MatchOption, sym, ap, refl, ◌∙◌, arith, ⊎_elim}
-use Rattle.std.specs.Prelude.{nat_eq}
+use Rattle.std.specs.Prelude.{nat_eq, IsSome}
 use Rattle.std.specs.List.{Contains}
 use Rattle.std.specs.Map.{lookup}
 use Rattle.std.specs.Ordering.{nat_cmp}
 use Rattle.std.specs.Cmp.{nat_cmp_total, unsigned_tied}
-use Rattle.std.specs.FinMap.{FinMap, get, from_entries, find, get-from_entries}
+use Rattle.std.specs.FinMap.{FinMap, get, from_entries, find, get-from_entries, same_map, nat_cmp-IsAntisymmetric}
 use Rattle.std.proofs.lemmas.Option.{same_Some, none-some}
 use Rattle.std.proofs.lemmas.Bool.{cases_eq, cases_lt, eqb-true}
 use Rattle.std.proofs.lemmas.List.Elements.{Contains-append_left, Contains-push, Contains-push_cases}
@@ -113,3 +113,19 @@ apart_nodes k node q e apart =
       | true ↦ λ t. absurd (apart (sym (eqb-true k q t) ∙ e))
       | false ↦ λ t. refl
     ] refl
+
+-- once the peer's earlier counter is put back, the map is as it was
+pub restored : (old new : List (ℕ × ℕ)) (m before : FinMap nat_cmp ℕ) (node : ℕ) (kept : Option ℕ) → from_entries old ≡ m → lookup (nat_eq node) new ≡ kept → ((other : ℕ) → (node ≡ other → ⊥) → lookup (nat_eq other) new ≡ lookup (nat_eq other) old) → get before node ≡ kept → ((other : ℕ) → (other ≡ node → ⊥) → get before other ≡ get m other) → from_entries new ≡ before
+restored old new m before node kept is here others was elsewhere =
+    same_map nat_cmp_total nat_cmp-IsAntisymmetric (from_entries new) before
+    (λ other.
+    ⊎_elim
+    (λ (same : other ≡ node).
+    get_lookup new (from_entries new) refl other ∙ ap (λ q. lookup (nat_eq q) new) same ∙ here ∙ sym was ∙ ap (get before) (sym same))
+    (λ (apart : other ≡ node → ⊥).
+    get_lookup new (from_entries new) refl other ∙ others other (λ e. apart (sym e)) ∙ sym (get_lookup old m is other) ∙ sym (elsewhere other apart))
+    (cases_eq other node))
+
+pub there_still : (r : Option ℕ) → (r ≡ None → ⊥) → IsSome r
+there_still None none = absurd (none refl)
+there_still (Some n) none = refl

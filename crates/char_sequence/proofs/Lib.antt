@@ -6,12 +6,15 @@ pub mod Counters
 pub mod Inserting
 pub mod VisibleText
 pub mod Holding
+pub mod Hiding
+pub mod Deciding
 pub mod OneOrder
 pub mod Steps
 pub mod Growing
 pub mod RunKept
 pub mod RunHeld
 pub mod Parts
+pub mod Reviving
 pub mod Joined
 pub mod TextGrowth
 pub mod Naming

@@ -5,13 +5,14 @@ use Rattle.std.proofs.lemmas.Bool.{cases_Bool, cases_lt}
 use Rattle.std.proofs.lemmas.Option.{same_Some}
 use Rattle.change_ops.specs.declared.id.OpId.{OpId}
 use Rattle.change_ops.specs.declared.operation.Op.{Op}
-use Rattle.change_ops.specs.declared.operation.Op.TheVariants.{Insert, Remove}
+use Rattle.change_ops.specs.declared.operation.Op.TheVariants.{Insert}
 use Rattle.char_sequence.specs.declared.sequence.Element.{Element}
-use Rattle.char_sequence.specs.Tree.{Present, Removed, IsTree}
+use Rattle.char_sequence.specs.Tree.{Present, IsHidden, IsTree}
 use Rattle.char_sequence.specs.Order.{Before, IsText, Shows, SameSet}
 use Rattle.char_sequence.proofs.TreeLaws.{before_asym, before_kept}
 use Rattle.char_sequence.proofs.Lists.{same_in_order, MembersOf}
 use Rattle.char_sequence.proofs.Holding.{listed_ids}
+use Rattle.char_sequence.proofs.Hiding.{hidden_same, same_removals_of_set, same_removals_sym}
 
 -- a text of one list of the set is one of each other
 pub text_of_set : (ops others : List Op) → SameSet ops others → (es : List Element) → IsText others es → IsText ops es
@@ -19,8 +20,8 @@ text_of_set ops others s es text = record {
   ordered = λ i j x y less g h. before_kept others ops (λ z p i. (i.0, s.back (Insert z p i.0) i.1)) (Some x.id) y.id (text.ordered i j x y less g h);
   listed = λ x p c i. text.listed x p c (s.forth (Insert x p c) i);
   inserted = λ i e g. let r = text.inserted i e g in (r.0, s.back (Insert e.id r.0 e.character) r.1);
-  shown = λ i e g shows r. text.shown i e g shows (r.0, s.forth (Remove r.0 e.id) r.1);
-  hidden = λ i e g hides. let r = text.hidden i e g hides in (r.0, s.back (Remove r.0 e.id) r.1);
+  shown = λ i e g shows r. text.shown i e g shows (hidden_same ops others (same_removals_of_set ops others s) e.id r);
+  hidden = λ i e g hides. hidden_same others ops (same_removals_sym ops others (same_removals_of_set ops others s)) e.id (text.hidden i e g hides);
 }
 
 pub same_elements : (a b : Element) → a.id ≡ b.id → a.character ≡ b.character → a.visible ≡ b.visible → a ≡ b
@@ -34,11 +35,11 @@ same_visible ops es fs t u i j a b g h e =
     (λ (x : a.visible ≡ true).
     ⊎_elim
     (λ (y : b.visible ≡ true). x ∙ sym y)
-    (λ (y : b.visible ≡ false). absurd (t.shown i a g x (subst (λ z. Removed ops z) (sym e) (u.hidden j b h y))))
+    (λ (y : b.visible ≡ false). absurd (t.shown i a g x (subst (λ z. IsHidden ops z) (sym e) (u.hidden j b h y))))
     (cases_Bool b.visible))
     (λ (x : a.visible ≡ false).
     ⊎_elim
-    (λ (y : b.visible ≡ true). absurd (u.shown j b h y (subst (λ z. Removed ops z) e (t.hidden i a g x))))
+    (λ (y : b.visible ≡ true). absurd (u.shown j b h y (subst (λ z. IsHidden ops z) e (t.hidden i a g x))))
     (λ (y : b.visible ≡ false). x ∙ sym y)
     (cases_Bool b.visible))
     (cases_Bool a.visible)

@@ -13,10 +13,12 @@ use Rattle.change_ops.specs.declared.operation.Op.{Op}
 use Rattle.change_ops.specs.declared.operation.Op.TheVariants.{Insert}
 use Rattle.change_ops.specs.declared.size.Size.{Size}
 use Rattle.char_sequence.specs.declared.sequence.Element.{Element}
-use Rattle.char_sequence.specs.Held.{Holds}
+use Rattle.char_sequence.specs.Held.{Holds, HoldsRemovals}
+use Rattle.removal_runs.specs.Open.{Removals}
 use Rattle.char_sequence.specs.Newest.{IsNewest}
 use Rattle.char_sequence.specs.Places.{IsStart, IsPast}
-use Rattle.char_sequence.proofs.Holding.{count_push}
+use Rattle.char_sequence.proofs.Holding.{count_push, insert_not_remove, insert_not_revive}
+use Rattle.char_sequence.proofs.Hiding.{held_other}
 use Rattle.char_sequence.specs.RunElements.{elements_from, AcceptsRun}
 use Rattle.char_sequence.proofs.RunKept.{run_shown}
 
@@ -96,14 +98,23 @@ run_noted cs ops id parent later some noted =
     let within : held.0 < length cs = one.2 in
     (one.0 ∙ sym at.0, omega arith))
 
+-- the removals are those of the operations with a run's inserts too
+held_run : (cs : List ℕ) (removals : Removals) (ops : List Op) (id : OpId) (parent : Option OpId) → HoldsRemovals removals ops → HoldsRemovals removals (ops ++ inserts_from id parent cs)
+unfolding inserts_from
+held_run [] removals ops id parent h = subst (λ l. HoldsRemovals removals l) (sym (append-nil ops)) h
+held_run (c ∷ cs) removals ops id parent h =
+    subst (λ l. HoldsRemovals removals l) (append_assoc ops (Insert id parent c ∷ []) (inserts_from (next_id id) (Some id) cs))
+    (held_run cs removals (ops ++ Insert id parent c ∷ []) (next_id id) (Some id) (held_other removals ops (Insert id parent c) (insert_not_remove id parent c) (insert_not_revive id parent c) h))
+
 -- A sequence that holds the operations holds those of the run too, once the run's elements stand as one piece where its first one goes, and
 -- its last id is noted.
-pub run_held : {size : Size} (cs : List ℕ) (ops : List Op) (front back : List Element) (id : OpId) (parent : Option OpId) (start : ℕ) (newest later : FinMap nat_cmp ℕ) → 0 < length cs → Holds (record { elements = front ++ back; newest = newest }) ops → AcceptsRun size ops id parent cs → IsStart ops (front ++ back) parent start → IsPast (front ++ back) id start (length front) → ((op : Op) → ((id_of op).node ≡ id.node) → ((id_of op).counter + 1 ≡ id.counter + length cs) → IsNewest (ops ++ op ∷ []) later) → Holds (record { elements = front ++ (elements_from id cs ++ back); newest = later }) (ops ++ inserts_from id parent cs)
-run_held cs ops front back id parent start newest later some h a st past noted =
+pub run_held : {size : Size} (cs : List ℕ) (ops : List Op) (front back : List Element) (id : OpId) (parent : Option OpId) (start : ℕ) (newest later : FinMap nat_cmp ℕ) (removals : Removals) → 0 < length cs → Holds (record { elements = front ++ back; newest = newest; removals = removals }) ops → AcceptsRun size ops id parent cs → IsStart ops (front ++ back) parent start → IsPast (front ++ back) id start (length front) → ((op : Op) → ((id_of op).node ≡ id.node) → ((id_of op).counter + 1 ≡ id.counter + length cs) → IsNewest (ops ++ op ∷ []) later) → Holds (record { elements = front ++ (elements_from id cs ++ back); newest = later; removals = removals }) (ops ++ inserts_from id parent cs)
+run_held cs ops front back id parent start newest later removals some h a st past noted =
     let size : length (front ++ back) ≡ count_by is_insert ops = h.size in
     record {
       shows = run_shown cs ops front back id parent start h.shows a st past;
       newest = run_noted cs ops id parent later some noted;
+      removals = held_run cs removals ops id parent h.removals;
       size =
           omega (arith, size, count_run cs ops id parent, length-elements cs id, length-append front back, length-append front (elements_from id cs ++ back), length-append (elements_from id cs) back);
     }

@@ -6,7 +6,7 @@ use Rattle.std.proofs.lemmas.Bool.{cases_lt}
 use Rattle.std.proofs.lemmas.Option.{same_Some, none-some}
 use Rattle.std.proofs.lemmas.List.{append-nil}
 use Rattle.std.proofs.lemmas.List.Elements.{Contains-push, Contains-push_cases}
-use Rattle.change_ops.specs.Operations.{id_of, is_insert, Names}
+use Rattle.change_ops.specs.Operations.{id_of, is_insert}
 use Rattle.change_ops.specs.Runs.{next_id, inserts_from}
 use Rattle.change_ops.specs.declared.id.OpId.{OpId}
 use Rattle.change_ops.specs.declared.operation.Op.{Op}
@@ -16,12 +16,12 @@ use Rattle.change_ops.specs.Sizes.{most_characters, most_bytes}
 use Rattle.char_sequence.specs.declared.sequence.Element.{Element}
 use Rattle.char_sequence.specs.Tree.{Present}
 use Rattle.char_sequence.specs.Order.{Shows}
-use Rattle.char_sequence.specs.Acceptance.{Used, HasNoRoom, Accepts, AcceptsAll}
+use Rattle.char_sequence.specs.Acceptance.{Used, NamesId, HasNoRoom, Accepts, AcceptsAll}
 use Rattle.char_sequence.specs.Visible.{visible_text}
 use Rattle.char_sequence.specs.Places.{IsStart, IsPast}
 use Rattle.char_sequence.proofs.Ids.{less_trans, less_by_counter}
 use Rattle.char_sequence.proofs.Inserting.{start_after}
-use Rattle.char_sequence.proofs.Holding.{tree_push, distinct_push, named_push, text_insert, count_push}
+use Rattle.char_sequence.proofs.Holding.{tree_push, distinct_push, named_push, removals_push, text_insert, count_push}
 use Rattle.char_sequence.specs.RunElements.{elements_from, AcceptsRun}
 use Rattle.char_sequence.proofs.Lists.{insert_append}
 use Rattle.char_sequence.proofs.Growing.{one_inserted, inserted_bytes, bytes_room}
@@ -29,18 +29,20 @@ use Rattle.char_sequence.proofs.Growing.{one_inserted, inserted_bytes, bytes_roo
 -- ---- which runs are accepted
 first_accepted : {size : Size} (ops : List Op) (id : OpId) (parent : Option OpId) (c : ℕ) (cs : List ℕ) → AcceptsRun size ops id parent (c ∷ cs) → Accepts size ops (Insert id parent c)
 first_accepted {size} ops id parent c cs a = record {
-  fresh = λ stale. ⊎_elim (λ (u : Used ops id). a.fresh u) (λ (u : (x : OpId) × Names (Insert id parent c) x × (id.counter ≤ x.counter)). a.above u.0 u.1 u.2) stale;
+  fresh = λ stale. ⊎_elim (λ (u : Used ops id). a.fresh u) (λ (u : (x : OpId) × NamesId (Insert id parent c) x × (id.counter ≤ x.counter)). ⊎_elim (λ (n : parent ≡ Some u.0). a.above u.0 n u.2) (λ (n : ⊥). n) u.1) stale;
   known = λ x n. a.known x n;
+  removal = λ r n. absurd n;
   room =
       λ full.
       ⊎_elim
-      (λ (many : most_characters size ≤ count_by is_insert ops). let have = a.room in absurd (omega (arith, have)))
+      (λ (many : (is_insert (Insert id parent c) ≡ true) × (most_characters size ≤ count_by is_insert ops)). let have = a.room in let most = many.1 in absurd (omega (arith, have, most)))
       (λ (none : HasNoRoom ops (Insert id parent c)).
-      let space = a.space none.0 none.1 in
-      let more : most_bytes < length (visible_text none.0) + length (encode_utf8 c) = none.2 in
+      let space = a.space none.0 none.2 in
+      let same : c ≡ none.1 = none.3 in
+      let more : most_bytes < length (visible_text none.0) + length (encode_utf8 c) = subst (λ z. most_bytes < length (visible_text none.0) + length (encode_utf8 z)) (sym same) none.4 in
       let both = length-append (encode_utf8 c) (encode_utf8_all cs) in
       absurd (omega (arith, space, more, both)))
-      full.1;
+      full;
 }
 
 rest_accepted : {size : Size} (ops : List Op) (es : List Element) (id : OpId) (parent : Option OpId) (c : ℕ) (cs : List ℕ) → Shows es ops → AcceptsRun size ops id parent (c ∷ cs) → AcceptsRun size (ops ++ Insert id parent c ∷ []) (next_id id) (Some id) cs
@@ -92,6 +94,7 @@ one_shown ops front back id parent c start h a st past =
       tree = tree_push ops h.tree (Insert id parent c) a;
       distinct = distinct_push ops (Insert id parent c) a h.distinct;
       named = named_push ops (Insert id parent c) a h.named;
+      removals = removals_push ops (Insert id parent c) a h.removals;
       text = text_insert ops (front ++ back) id parent c h.tree h.named h.text a start (length front) st past (omega (arith, length-append front back)) e refl refl refl;
     })
 
@@ -140,12 +143,12 @@ run_accepted_only {size} [] c ops id parent all =
     let first : Accepts size ops (Insert id parent c) = subst (λ l. Accepts size l (Insert id parent c)) (append-nil ops) (all 0 (Insert id parent c) refl) in
     record {
       fresh = λ used. first.fresh (inl used);
-      above = λ x e le. first.fresh (inr (x, e, le));
+      above = λ x e le. first.fresh (inr (x, inl e, le));
       known = λ x e. first.known x e;
       room =
           ⊎_elim
           (λ (low : count_by is_insert ops < most_characters size). omega arith)
-          (λ (full : most_characters size ≤ count_by is_insert ops). absurd (first.room (refl, inl full)))
+          (λ (full : most_characters size ≤ count_by is_insert ops). absurd (first.room (inl (refl, full))))
           (cases_lt (count_by is_insert ops) (most_characters size));
       space =
           λ es h.
@@ -162,7 +165,7 @@ run_accepted_only {size} (d ∷ cs) c ops id parent all =
     let room : count_by is_insert (ops ++ Insert id parent c ∷ []) + length (d ∷ cs) ≤ most_characters size = rest.room in
     record {
       fresh = λ used. first.fresh (inl used);
-      above = λ x e le. first.fresh (inr (x, e, le));
+      above = λ x e le. first.fresh (inr (x, inl e, le));
       known = λ x e. first.known x e;
       room = omega arith;
       space =

@@ -21,6 +21,7 @@ use Rattle.char_sequence.specs.Order.{IsText, Shows}
 use Rattle.char_sequence.specs.Chunks.{IsFloor}
 use Rattle.char_sequence.specs.Visible.{visible_text, visible_count}
 use Rattle.char_sequence.specs.Held.{Sequence, Holds}
+use Rattle.removal_runs.specs.Open.{Removals}
 use Rattle.char_sequence.specs.Named.{IsAboveAll}
 use Rattle.char_sequence.specs.Newest.{IsNewest}
 use Rattle.char_sequence.specs.Places.{IsStart, IsPast, IsAfter}
@@ -138,14 +139,14 @@ run_placed es ds es' id parent cs start k after past h same new ops shown a =
     (subst (λ z. IsStart ops z parent start) (sym r.0) at)
     (subst (λ n. IsPast (take k es ++ drop k es) id start n) (sym r.1) (subst (λ z. IsPast z id start k) (sym r.0) past)))
 
-pub run_placed_held : {size : Size} (es ds es' : List Element) (last last' : FinMap nat_cmp ℕ) (id : OpId) (parent : Option OpId) (cs : List ℕ) (start k : ℕ) → 0 < length cs → IsAfter es parent start → IsPast es id start k → k ≤ length es → ds ≡ es → es' ≡ insert_all ds k (elements_from id cs) → ((ops : List Op) (op : Op) → (id_of op).node ≡ id.node → (id_of op).counter + 1 ≡ id.counter + length cs → IsNewest ops last → IsNewest (ops ++ op ∷ []) last') → (ops : List Op) → Holds (record { elements = es; newest = last }) ops → AcceptsRun size ops id parent cs → Holds (record { elements = es'; newest = last' }) (ops ++ inserts_from id parent cs)
-run_placed_held es ds es' last last' id parent cs start k some after past h same new noted ops held a =
+pub run_placed_held : {size : Size} (es ds es' : List Element) (last last' : FinMap nat_cmp ℕ) (removals : Removals) (id : OpId) (parent : Option OpId) (cs : List ℕ) (start k : ℕ) → 0 < length cs → IsAfter es parent start → IsPast es id start k → k ≤ length es → ds ≡ es → es' ≡ insert_all ds k (elements_from id cs) → ((ops : List Op) (op : Op) → (id_of op).node ≡ id.node → (id_of op).counter + 1 ≡ id.counter + length cs → IsNewest ops last → IsNewest (ops ++ op ∷ []) last') → (ops : List Op) → Holds (record { elements = es; newest = last; removals = removals }) ops → AcceptsRun size ops id parent cs → Holds (record { elements = es'; newest = last'; removals = removals }) (ops ++ inserts_from id parent cs)
+run_placed_held es ds es' last last' removals id parent cs start k some after past h same new noted ops held a =
     let r = apart_at es k h in
     let shown = held.shows in
     let at : IsStart ops es parent start = begins ops es parent start shown.tree shown.text after in
-    subst (λ z. Holds (record { elements = z; newest = last' }) (ops ++ inserts_from id parent cs)) (sym (joined_at es ds es' (elements_from id cs) k h same new))
-    (run_held cs ops (take k es) (drop k es) id parent start last last' some
-    (subst (λ z. Holds (record { elements = z; newest = last }) ops) (sym r.0) held) a
+    subst (λ z. Holds (record { elements = z; newest = last'; removals = removals }) (ops ++ inserts_from id parent cs)) (sym (joined_at es ds es' (elements_from id cs) k h same new))
+    (run_held cs ops (take k es) (drop k es) id parent start last last' removals some
+    (subst (λ z. Holds (record { elements = z; newest = last; removals = removals }) ops) (sym r.0) held) a
     (subst (λ z. IsStart ops z parent start) (sym r.0) at)
     (subst (λ n. IsPast (take k es ++ drop k es) id start n) (sym r.1) (subst (λ z. IsPast z id start k) (sym r.0) past))
     (λ op node counter. noted ops op node counter held.newest))
@@ -157,8 +158,8 @@ run_bytes ops es ds later id parent cs k within same new h a =
     subst (λ n. n ≤ most_bytes) (sym bytes) (a.space es h)
 
 -- there are not too many
-pub run_few : {size : Size} (es : List Element) (newest : FinMap nat_cmp ℕ) (ops : List Op) (id : OpId) (parent : Option OpId) (cs : List ℕ) → Holds (record { elements = es; newest = newest }) (ops ++ inserts_from id parent cs) → AcceptsRun size ops id parent cs → length es ≤ most_characters size
-run_few es newest ops id parent cs h a =
+pub run_few : {size : Size} (es : List Element) (newest : FinMap nat_cmp ℕ) (removals : Removals) (ops : List Op) (id : OpId) (parent : Option OpId) (cs : List ℕ) → Holds (record { elements = es; newest = newest; removals = removals }) (ops ++ inserts_from id parent cs) → AcceptsRun size ops id parent cs → length es ≤ most_characters size
+run_few es newest removals ops id parent cs h a =
     let size = h.size in
     let count = count_run cs ops id parent in
     let room = a.room in

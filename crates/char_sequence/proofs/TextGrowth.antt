@@ -1,23 +1,27 @@
--- How much longer the visible text is with more operations: no longer than by what they insert.
+-- How much longer the visible text is with more operations: no longer than by what they insert and show again.
 use Rattle.std.proofs.Common.{◌≡◌, ℕ, zero, suc, ◌+◌, ◌<◌, ◌≤◌, true, false, List, [], ◌∷◌, ◌++◌, Option, Some, length, map, sym, ap, refl, ◌∙◌, subst, arith, ⊎_elim}
 use Rattle.std.specs.List.{slice_get, sum, Contains}
 use Rattle.std.specs.Char.{encode_utf8}
 use Rattle.std.proofs.lemmas.Bool.{cases_Bool}
-use Rattle.std.proofs.lemmas.Option.{same_Some, none-some, slice_get_within, slice_get-get_or}
+use Rattle.std.proofs.lemmas.Option.{same_Some, none-some, slice_get_within}
 use Rattle.std.proofs.lemmas.List.Sums.{sum_by-cons}
-use Rattle.std.proofs.lemmas.List.Elements.{Contains-append_left, Contains-append_cases}
-use Rattle.change_ops.specs.Operations.{bytes_of}
+use Rattle.std.proofs.lemmas.List.Elements.{Contains-append_left, Contains-append_right, Contains-append_cases}
 use Rattle.change_ops.specs.declared.id.OpId.{OpId}
+use Rattle.change_ops.specs.declared.attribute.Attribute.{Attribute}
+use Rattle.change_ops.specs.declared.attribute.Key.{Key}
+use Rattle.change_ops.specs.declared.operation.Anchor.{Anchor}
 use Rattle.change_ops.specs.declared.operation.Op.{Op}
-use Rattle.change_ops.specs.declared.operation.Op.TheVariants.{Insert, Remove, AddMark, RemoveMark}
+use Rattle.change_ops.specs.declared.operation.Op.TheVariants.{Insert, Remove, AddMark, RemoveMark, Revive}
 use Rattle.char_sequence.specs.declared.sequence.Element.{Element}
-use Rattle.char_sequence.specs.Tree.{Removed}
+use Rattle.char_sequence.specs.Tree.{IsTakenBack, IsHidden}
+use Rattle.char_sequence.specs.Acceptance.{most_growth}
+use Rattle.char_sequence.proofs.Deciding.{nothing_there, cons_cases, at_front, behind_front, back_or_not}
 use Rattle.char_sequence.specs.Order.{Before, Shows}
 use Rattle.char_sequence.specs.Visible.{visible_text}
 use Rattle.char_sequence.proofs.TreeLaws.{before_irrefl}
 use Rattle.char_sequence.proofs.Joined.{get_left, get_right}
 use Rattle.char_sequence.proofs.OneOrder.{same_elements}
-use Rattle.char_sequence.proofs.VisibleText.{visible_none, visible_one, hidden_one, bytes_append, bytes_next}
+use Rattle.char_sequence.proofs.VisibleText.{visible_none, visible_one, hidden_one, one_most, bytes_append, bytes_next}
 
 -- ---- a list among another
 abbrev without : List Element → ℕ → List Element
@@ -66,87 +70,185 @@ covered (x ∷ xs) ys apart there =
     omega (arith, whole, rest, none))
     (cases_Bool x.visible)
 
--- ---- the inserted characters
-abbrev inserted : List Op → List Element
-inserted [] = []
-inserted (Insert id parent character ∷ ops) = record { id = id; character = character; visible = true } ∷ inserted ops
-inserted (Remove id target ∷ ops) = inserted ops
-inserted (AddMark id attribute start end ∷ ops) = inserted ops
-inserted (RemoveMark id key start end ∷ ops) = inserted ops
+-- ---- the characters that operations may show
+abbrev seen_as : OpId → ℕ → Element
+seen_as x c = record { id = x; character = c; visible = true }
 
-inserted_bytes : (ops : List Op) → length (visible_text (inserted ops)) ≡ sum (map bytes_of ops)
-inserted_bytes [] = ap length visible_none
-inserted_bytes (Insert id parent character ∷ ops) =
-    let e : Element = record { id = id; character = character; visible = true } in
-    let rest = inserted_bytes ops in
-    let whole = bytes_next e (inserted ops) in
-    let one : length (visible_text (e ∷ [])) ≡ length (encode_utf8 character) = ap length (visible_one e refl) in
-    let total : sum (map bytes_of (Insert id parent character ∷ ops)) ≡ length (encode_utf8 character) + sum (map bytes_of ops) = sum_by-cons (λ n. n) (length (encode_utf8 character)) (map bytes_of ops) in
-    omega (arith, rest, whole, one, total)
-inserted_bytes (Remove id target ∷ ops) = inserted_bytes ops
-inserted_bytes (AddMark id attribute start end ∷ ops) = inserted_bytes ops
-inserted_bytes (RemoveMark id key start end ∷ ops) = inserted_bytes ops
+-- elements with the characters that the operations insert and show again, with no more bytes than these may add
+record Gains (all added : List Op) : Type 0 where
+  elements : List Element
+  few : length (visible_text elements) ≤ sum (map most_growth added)
+  inserted : (x : OpId) (p : Option OpId) (c : ℕ) → Contains added (Insert x p c) → (j : ℕ) × (slice_get elements j ≡ Some (seen_as x c))
+  revived : (v r x : OpId) (p : Option OpId) (c : ℕ) → Contains added (Revive v r) → Contains all (Remove r x) → Contains all (Insert x p c) → (j : ℕ) × (slice_get elements j ≡ Some (seen_as x c))
 
-inserted_at : (ops : List Op) (i : ℕ) (id : OpId) (parent : Option OpId) (character : ℕ) → slice_get ops i ≡ Some (Insert id parent character) → (j : ℕ) × (slice_get (inserted ops) j ≡ Some (record { id = id; character = character; visible = true }))
-inserted_at [] i id parent character g = absurd (none-some (Insert id parent character) g)
-inserted_at (Insert x p c ∷ ops) zero id parent character g =
-    let same : Insert x p c ≡ Insert id parent character = same_Some (Insert x p c) (Insert id parent character) g in
-    let is : x ≡ id = cc in
-    let shows : c ≡ character = cc in
-    (zero, ap Some (same_elements (record { id = x; character = c; visible = true }) (record { id = id; character = character; visible = true }) is shows refl))
-inserted_at (Insert x p c ∷ ops) (suc i) id parent character g =
-    let r = inserted_at ops i id parent character g in
-    (suc r.0, r.1)
-inserted_at (Remove r x ∷ ops) zero id parent character g =
-    let same : Remove r x ≡ Insert id parent character = same_Some (Remove r x) (Insert id parent character) g in
-    absurd cc
-inserted_at (Remove r x ∷ ops) (suc i) id parent character g = inserted_at ops i id parent character g
-inserted_at (AddMark x a s e ∷ ops) zero id parent character g =
-    let same : AddMark x a s e ≡ Insert id parent character = same_Some (AddMark x a s e) (Insert id parent character) g in
-    absurd cc
-inserted_at (AddMark x a s e ∷ ops) (suc i) id parent character g = inserted_at ops i id parent character g
-inserted_at (RemoveMark x k s e ∷ ops) zero id parent character g =
-    let same : RemoveMark x k s e ≡ Insert id parent character = same_Some (RemoveMark x k s e) (Insert id parent character) g in
-    absurd cc
-inserted_at (RemoveMark x k s e ∷ ops) (suc i) id parent character g = inserted_at ops i id parent character g
+gain_more : (all : List Op) (op : Op) (ops : List Op) (e : Element) → Gains all ops → length (visible_text (e ∷ [])) ≤ most_growth op → ((x : OpId) (p : Option OpId) (c : ℕ) → op ≡ Insert x p c → e ≡ seen_as x c) → ((v r x : OpId) (p : Option OpId) (c : ℕ) → op ≡ Revive v r → Contains all (Remove r x) → Contains all (Insert x p c) → e ≡ seen_as x c) → Gains all (op ∷ ops)
+gain_more all op ops e g fits insert revival = record {
+  elements = e ∷ g.elements;
+  few =
+      let rest = g.few in
+      let whole = bytes_next e g.elements in
+      let total : sum (map most_growth (op ∷ ops)) ≡ most_growth op + sum (map most_growth ops) = sum_by-cons (λ n. n) (most_growth op) (map most_growth ops) in
+      omega (arith, rest, whole, fits, total);
+  inserted =
+      λ x p c h.
+      ⊎_elim
+      (λ (now : op ≡ Insert x p c). (zero, ap Some (insert x p c now)))
+      (λ (old : Contains ops (Insert x p c)). let r = g.inserted x p c old in (suc r.0, r.1))
+      (cons_cases op ops (Insert x p c) h);
+  revived =
+      λ v r x p c h gone there.
+      ⊎_elim
+      (λ (now : op ≡ Revive v r). (zero, ap Some (revival v r x p c now gone there)))
+      (λ (old : Contains ops (Revive v r)). let q = g.revived v r x p c old gone there in (suc q.0, q.1))
+      (cons_cases op ops (Revive v r) h);
+}
+
+gain_none : (all : List Op) (op : Op) (ops : List Op) → Gains all ops → ((x : OpId) (p : Option OpId) (c : ℕ) → op ≡ Insert x p c → ⊥) → ((v r : OpId) → op ≡ Revive v r → ⊥) → Gains all (op ∷ ops)
+gain_none all op ops g no_insert no_revival = record {
+  elements = g.elements;
+  few =
+      let rest = g.few in
+      let total : sum (map most_growth (op ∷ ops)) ≡ most_growth op + sum (map most_growth ops) = sum_by-cons (λ n. n) (most_growth op) (map most_growth ops) in
+      omega (arith, rest, total);
+  inserted =
+      λ x p c h.
+      ⊎_elim
+      (λ (now : op ≡ Insert x p c). absurd (no_insert x p c now))
+      (λ (old : Contains ops (Insert x p c)). g.inserted x p c old)
+      (cons_cases op ops (Insert x p c) h);
+  revived =
+      λ v r x p c h gone there.
+      ⊎_elim
+      (λ (now : op ≡ Revive v r). absurd (no_revival v r now))
+      (λ (old : Contains ops (Revive v r)). g.revived v r x p c old gone there)
+      (cons_cases op ops (Revive v r) h);
+}
+
+same_insert : (x y : OpId) (p q : Option OpId) (c d : ℕ) → Insert x p c ≡ Insert y q d → (x ≡ y) × (c ≡ d)
+same_insert x y p q c d e =
+    let first : x ≡ y = cc in
+    let second : c ≡ d = cc in
+    (first, second)
+
+insert_no_revival : (x : OpId) (p : Option OpId) (c : ℕ) (v r : OpId) → Insert x p c ≡ Revive v r → ⊥
+insert_no_revival x p c v r e = cc
+
+revive_no_insert : (v r x : OpId) (p : Option OpId) (c : ℕ) → Revive v r ≡ Insert x p c → ⊥
+revive_no_insert v r x p c e = cc
+
+same_revival : (v r w s : OpId) → Revive v r ≡ Revive w s → r ≡ s
+same_revival v r w s e = cc
+
+same_removal : (r x s y : OpId) → Remove r x ≡ Remove s y → x ≡ y
+same_removal r x s y e = cc
+
+remove_no_insert : (r y x : OpId) (p : Option OpId) (c : ℕ) → Remove r y ≡ Insert x p c → ⊥
+remove_no_insert r y x p c e = cc
+
+remove_no_revival : (s y v r : OpId) → Remove s y ≡ Revive v r → ⊥
+remove_no_revival s y v r e = cc
+
+mark_no_insert : (id : OpId) (attribute : Attribute) (start end : Anchor) (x : OpId) (p : Option OpId) (c : ℕ) → AddMark id attribute start end ≡ Insert x p c → ⊥
+mark_no_insert id attribute start end x p c e = cc
+
+mark_no_revival : (id : OpId) (attribute : Attribute) (start end : Anchor) (v r : OpId) → AddMark id attribute start end ≡ Revive v r → ⊥
+mark_no_revival id attribute start end v r e = cc
+
+unmark_no_insert : (id : OpId) (key : Key) (start end : Anchor) (x : OpId) (p : Option OpId) (c : ℕ) → RemoveMark id key start end ≡ Insert x p c → ⊥
+unmark_no_insert id key start end x p c e = cc
+
+unmark_no_revival : (id : OpId) (key : Key) (start end : Anchor) (v r : OpId) → RemoveMark id key start end ≡ Revive v r → ⊥
+unmark_no_revival id key start end v r e = cc
+
+gain_insert : (all ops : List Op) (id : OpId) (p : Option OpId) (c : ℕ) → Gains all ops → Gains all (Insert id p c ∷ ops)
+gain_insert all ops id p c g =
+    let e : Element = seen_as id c in
+    let one : length (visible_text (e ∷ [])) ≡ length (encode_utf8 c) = ap length (visible_one e refl) in
+    gain_more all (Insert id p c) ops e g (omega (arith, one))
+    (λ x q d same. let both = same_insert id x p q c d same in same_elements e (seen_as x d) both.0 both.1 refl)
+    (λ v r x q d same gone there. absurd (insert_no_revival id p c v r same))
+
+gain_revival : (all ops : List Op) (later : List Element) → Shows later all → (id removal : OpId) → Contains all (Revive id removal) → Gains all ops → Gains all (Revive id removal ∷ ops)
+gain_revival all ops later h id removal here g =
+    let of = h.removals (Revive id removal) removal here refl in
+    let target : OpId = of.0 in
+    let from = h.named (Remove removal target) target of.1 refl in
+    let c : ℕ = from.1.0 in
+    let e : Element = seen_as target c in
+    gain_more all (Revive id removal) ops e g (one_most e)
+    (λ x q d same. absurd (revive_no_insert id removal x q d same))
+    (λ v r x q d same gone there.
+    let is : removal ≡ r = same_revival id removal v r same in
+    let one : target ≡ x = same_removal removal target r x (h.distinct (Remove removal target) (Remove r x) of.1 gone is) in
+    let two = same_insert target x from.0 q c d (h.distinct (Insert target from.0 c) (Insert x q d) from.1.1 there one) in
+    same_elements e (seen_as x d) one two.1 refl)
+
+gains : (all : List Op) (later : List Element) → Shows later all → (added : List Op) → ((o : Op) → Contains added o → Contains all o) → Gains all added
+gains all later h [] within = record {
+  elements = [];
+  few = let none = ap length visible_none in omega (arith, none);
+  inserted = λ x p c there. absurd (nothing_there (Insert x p c) there);
+  revived = λ v r x p c there gone ins. absurd (nothing_there (Revive v r) there);
+}
+gains all later h (Insert id p c ∷ ops) within =
+    gain_insert all ops id p c (gains all later h ops (λ o there. within o (behind_front (Insert id p c) ops o there)))
+gains all later h (Remove id target ∷ ops) within =
+    gain_none all (Remove id target) ops (gains all later h ops (λ o there. within o (behind_front (Remove id target) ops o there))) (remove_no_insert id target) (remove_no_revival id target)
+gains all later h (AddMark id attribute start end ∷ ops) within =
+    gain_none all (AddMark id attribute start end) ops (gains all later h ops (λ o there. within o (behind_front (AddMark id attribute start end) ops o there))) (mark_no_insert id attribute start end) (mark_no_revival id attribute start end)
+gains all later h (RemoveMark id key start end ∷ ops) within =
+    gain_none all (RemoveMark id key start end) ops (gains all later h ops (λ o there. within o (behind_front (RemoveMark id key start end) ops o there))) (unmark_no_insert id key start end) (unmark_no_revival id key start end)
+gains all later h (Revive id removal ∷ ops) within =
+    gain_revival all ops later h id removal (within (Revive id removal) (at_front (Revive id removal) ops)) (gains all later h ops (λ o there. within o (behind_front (Revive id removal) ops o there)))
 
 -- ---- where each visible character comes from
-shown_before : (ops added : List Op) (es later : List Element) → Shows es ops → Shows later (ops ++ added) → (k : ℕ) (e : Element) (p : Option OpId) → slice_get later k ≡ Some e → e.visible ≡ true → Contains ops (Insert e.id p e.character) → (j : ℕ) × (slice_get es j ≡ Some e)
-shown_before ops added es later h s k e p g seen was =
-    let r = h.text.listed e.id p e.character was in
-    let old : Element = r.1.0 in
-    let is : old.id ≡ e.id = r.1.2 in
-    let visible : old.visible ≡ true =
+-- a removal that hid the character is taken back by an operation that was added
+revived_since : (ops added : List Op) (later : List Element) (r x : OpId) → Shows later (ops ++ added) → Contains ops (Remove r x) → (IsTakenBack ops r → ⊥) → (IsHidden (ops ++ added) x → ⊥) → (v : OpId) × Contains added (Revive v r)
+revived_since ops added later r x s removes stands shown =
     ⊎_elim
-    (λ (t : old.visible ≡ true). t)
-    (λ (f : old.visible ≡ false).
-    let gone = h.text.hidden r.0 old r.1.1 f in
-    absurd (s.text.shown k e g seen (subst (λ z. Removed (ops ++ added) z) is (gone.0, Contains-append_left ops added (Remove gone.0 old.id) gone.1))))
-    (cases_Bool old.visible)
-    in
-    (r.0, r.1.1 ∙ ap Some (same_elements old e is r.1.3 (visible ∙ sym seen)))
+    (λ (b : IsTakenBack (ops ++ added) r).
+    ⊎_elim
+    (λ (old : Contains ops (Revive b.0 r)). absurd (stands (b.0, old)))
+    (λ (new : Contains added (Revive b.0 r)). (b.0, new))
+    (Contains-append_cases ops added (Revive b.0 r) b.1))
+    (λ (none : IsTakenBack (ops ++ added) r → ⊥). absurd (shown (r, Contains-append_left ops added (Remove r x) removes, none)))
+    (back_or_not (ops ++ added) r)
 
-comes_from : (ops added : List Op) (es later : List Element) → Shows es ops → Shows later (ops ++ added) → (k : ℕ) (e : Element) → slice_get later k ≡ Some e → e.visible ≡ true → (j : ℕ) × (slice_get (es ++ inserted added) j ≡ Some e)
-comes_from ops added es later h s k e g seen =
-    let from = s.text.inserted k e g in
+right_of : (es elements : List Element) (e : Element) (x : OpId) (c : ℕ) → x ≡ e.id → c ≡ e.character → e.visible ≡ true → (j : ℕ) × (slice_get elements j ≡ Some (seen_as x c)) → (j : ℕ) × (slice_get (es ++ elements) j ≡ Some e)
+right_of es elements e x c id character seen (j, at) =
+    (length es + j, get_right es elements j (length es + j) refl ∙ at ∙ ap Some (same_elements (seen_as x c) e id character (sym seen)))
+
+comes_from : (ops added : List Op) (es later : List Element) → Shows es ops → Shows later (ops ++ added) → (g : Gains (ops ++ added) added) → (k : ℕ) (e : Element) → slice_get later k ≡ Some e → e.visible ≡ true → (j : ℕ) × (slice_get (es ++ g.elements) j ≡ Some e)
+comes_from ops added es later h s g k e at seen =
+    let from = s.text.inserted k e at in
     let op : Op = Insert e.id from.0 e.character in
     ⊎_elim
     (λ (was : Contains ops op).
-    let r = shown_before ops added es later h s k e from.0 g seen was in
-    (r.0, get_left es (inserted added) r.0 (slice_get_within es r.0 e r.1) ∙ r.1))
-    (λ (new : Contains added op).
-    let here : slice_get added new.0 ≡ Some op = slice_get-get_or added new.0 op new.1 ∙ ap Some new.2 in
-    let r = inserted_at added new.0 e.id from.0 e.character here in
-    (length es + r.0, get_right es (inserted added) r.0 (length es + r.0) refl ∙ r.1 ∙ ap Some (same_elements (record { id = e.id; character = e.character; visible = true }) e refl refl (sym seen))))
+    let r = h.text.listed e.id from.0 e.character was in
+    let old : Element = r.1.0 in
+    let is : old.id ≡ e.id = r.1.2 in
+    ⊎_elim
+    (λ (t : old.visible ≡ true).
+    let same : old ≡ e = same_elements old e is r.1.3 (t ∙ sym seen) in
+    (r.0, get_left es g.elements r.0 (slice_get_within es r.0 old r.1.1) ∙ r.1.1 ∙ ap Some same))
+    (λ (f : old.visible ≡ false).
+    let gone = h.text.hidden r.0 old r.1.1 f in
+    let removes : Contains ops (Remove gone.0 e.id) = subst (λ z. Contains ops (Remove gone.0 z)) is gone.1 in
+    let by = revived_since ops added later gone.0 e.id s removes gone.2 (s.text.shown k e at seen) in
+    right_of es g.elements e e.id e.character refl refl seen
+    (g.revived by.0 gone.0 e.id from.0 e.character by.1 (Contains-append_left ops added (Remove gone.0 e.id) removes) from.1))
+    (cases_Bool old.visible))
+    (λ (new : Contains added op). right_of es g.elements e e.id e.character refl refl seen (g.inserted e.id from.0 e.character new))
     (Contains-append_cases ops added op from.1)
 
-pub text_grown : (ops added : List Op) (es later : List Element) → Shows es ops → Shows later (ops ++ added) → length (visible_text later) ≤ length (visible_text es) + sum (map bytes_of added)
+pub text_grown : (ops added : List Op) (es later : List Element) → Shows es ops → Shows later (ops ++ added) → length (visible_text later) ≤ length (visible_text es) + sum (map most_growth added)
 text_grown ops added es later h s =
+    let g : Gains (ops ++ added) added = gains (ops ++ added) later s added (λ o c. Contains-append_right ops added o c) in
     let most =
-    covered later (es ++ inserted added)
-    (λ i j x y l g k same. before_irrefl (ops ++ added) s.tree y.id (subst (λ (z : Element). Before (ops ++ added) (Some z.id) y.id) same (s.text.ordered i j x y l g k)))
-    (comes_from ops added es later h s)
+    covered later (es ++ g.elements)
+    (λ i j x y l at k same. before_irrefl (ops ++ added) s.tree y.id (subst (λ (z : Element). Before (ops ++ added) (Some z.id) y.id) same (s.text.ordered i j x y l at k)))
+    (comes_from ops added es later h s g)
     in
-    let both = bytes_append es (inserted added) in
-    let total = inserted_bytes added in
-    omega (arith, most, both, total)
+    let both = bytes_append es g.elements in
+    let few = g.few in
+    omega (arith, most, both, few)

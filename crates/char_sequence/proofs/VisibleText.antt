@@ -4,7 +4,7 @@ use Rattle.std.specs.List.{filter, slice_get, insert}
 use Rattle.std.specs.Char.{encode_utf8}
 use Rattle.std.proofs.lemmas.Str.{encodes-append, length-encode, len_utf8_bounds}
 use Rattle.std.proofs.lemmas.List.{map-append, take-append-drop}
-use Rattle.std.proofs.lemmas.Option.{none-some}
+use Rattle.std.proofs.lemmas.Option.{none-some, same_Some}
 use Rattle.std.proofs.lemmas.List.Edits.{length-insert}
 use Rattle.std.proofs.lemmas.List.Elements.{filter-append}
 use Rattle.std.proofs.lemmas.Grind.{common_steps}
@@ -110,6 +110,21 @@ bytes_hidden (y ∷ ys) zero x e g f =
     omega (arith, none, new, old)
 bytes_hidden (y ∷ ys) (suc k) x e g f =
     let rest = bytes_hidden ys k x e g f in
+    let new = bytes_next y (set ys k e) in
+    let old = bytes_next y ys in
+    omega (arith, rest, new, old)
+
+-- an element that is shown makes the text longer by its character
+pub bytes_shown : (es : List Element) (k : ℕ) (x e : Element) → slice_get es k ≡ Some x → x.visible ≡ false → e.visible ≡ true → length (visible_text (set es k e)) ≡ length (visible_text es) + length (encode_utf8 e.character)
+bytes_shown [] k x e g f t = absurd (none-some x g)
+bytes_shown (y ∷ ys) zero x e g f t =
+    let none = ap length (hidden_one y (ap (λ (z : Element). z.visible) (same_Some y x g) ∙ f)) in
+    let one = ap length (visible_one e t) in
+    let new = bytes_next e ys in
+    let old = bytes_next y ys in
+    omega (arith, none, one, new, old)
+bytes_shown (y ∷ ys) (suc k) x e g f t =
+    let rest = bytes_shown ys k x e g f t in
     let new = bytes_next y (set ys k e) in
     let old = bytes_next y ys in
     omega (arith, rest, new, old)

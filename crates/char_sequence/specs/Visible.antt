@@ -3,15 +3,15 @@ use Rattle.std.specs.Prelude.{◌≡◌, ℕ, ◌+◌, ◌<◌, ◌≤◌, true,
 use Rattle.std.specs.List.{filter, count_by}
 use Rattle.char_sequence.specs.declared.sequence.Element.{Element}
 
--- the characters that are not removed, in order, as UTF-8
+-- the visible characters in order, as UTF-8
 unfoldable pub visible_text : List Element → List ℕ
 visible_text es = encode_utf8_all (map (λ e. e.character) (filter (λ e. e.visible) es))
 
--- how many of the characters are not removed
+-- how many of the characters are visible
 abbrev pub visible_count : List Element → ℕ
 visible_count es = count_by (λ e. e.visible) es
 
--- at the place stands a character that is not removed
+-- at the place stands a visible character
 abbrev pub IsVisibleAt : List Element → ℕ → Type 0
 IsVisibleAt es place = (e : Element) × (slice_get es place ≡ Some e) × (e.visible ≡ true)
 

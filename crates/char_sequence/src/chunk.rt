@@ -1,4 +1,4 @@
-ghost use Rattle.std.specs.Prelude.{vec_capacity, string_bytes, false, ◌≡◌, ℕ, ◌+◌, ◌^◌, ◌<◌, ◌≤◌, ◌∷◌, ◌++◌, []};
+ghost use Rattle.std.specs.Prelude.{vec_capacity, string_bytes, ◌≡◌, ℕ, ◌+◌, ◌^◌, ◌<◌, ◌≤◌, ◌∷◌, ◌++◌, []};
 ghost use Rattle.std.specs.Prelude.{Some, cond, take, drop, set, insert, length, slice_get, MatchOption, IfSome};
 ghost use Rattle.std.specs.String.{string_capacity};
 ghost use Rattle.std.specs.String.Boundary.{IsSplitPoint};
@@ -272,13 +272,13 @@ impl Chunk {
         }
     }
 
-    /// Makes the element at an index a tombstone.
-    pub(crate) fn hide(&mut self, index: usize)
+    /// Hides the element at an index, or shows it at its place in the text.
+    pub(crate) fn set_visible(&mut self, index: usize, visible: bool)
         requires { index < length self.old }
         ensures { (x : Element) → slice_get self.old index ≡ Some x
-            → self.new ≡ set self.old index (record { id = x.id; character = x.character; visible = false }) }
+            → self.new ≡ set self.old index (record { id = x.id; character = x.character; visible = visible }) }
     {
-        self.items[index].visible = false;
+        self.items[index].visible = visible;
         write_text(&self.items, &mut self.text);
         self.shown = count_visible(&self.items);
     }

@@ -677,19 +677,19 @@ impl ChunkList {
         }
     }
 
-    /// Makes the element of this id a tombstone.
-    pub(crate) fn hide(&mut self, id: OpId)
+    /// Hides the element of this id, or shows it.
+    pub(crate) fn set_visible(&mut self, id: OpId, visible: bool)
         requires { HasId (joined self.old.chunks) id }
         ensures { (place : ℕ) × IsAt (joined self.old.chunks) id place
             × ((x : Element) → slice_get (joined self.old.chunks) place ≡ Some x
             → joined self.new.chunks
-            ≡ set (joined self.old.chunks) place (record { id = x.id; character = x.character; visible = false })) }
+            ≡ set (joined self.old.chunks) place (record { id = x.id; character = x.character; visible = visible })) }
     {
         let spot = self.spot_of(id).unwrap();
         let chunk = &mut self.chunks[spot.position];
-        let with_it = chunk.text().len();
-        chunk.hide(spot.at);
-        self.bytes = self.bytes - with_it + chunk.text().len();
+        let was = chunk.text().len();
+        chunk.set_visible(spot.at, visible);
+        self.bytes = self.bytes - was + chunk.text().len();
         self.counts.recount(spot.position, chunk);
     }
 

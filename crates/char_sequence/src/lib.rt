@@ -7,6 +7,7 @@ mod chunk_list;
 mod chunk_names;
 mod counting;
 pub mod elements;
+mod entering;
 mod index;
 pub mod newest;
 pub mod place_table;

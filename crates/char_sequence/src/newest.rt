@@ -1,4 +1,8 @@
 ghost use Rattle.std.specs.Prelude.{◌≡◌, ◌++◌, ◌∷◌, [], List, Contains, IsTrue, ◌↔◌, MatchOption, IfOk, IfErr};
+ghost use Rattle.std.specs.Prelude.{ℕ, Some, None, IsSome, nat_eq};
+ghost use Rattle.indexmap.specs.IndexMap.{get as get_counter};
+ghost use Rattle.std.specs.Ordering.{nat_cmp};
+ghost use Rattle.std.specs.FinMap.{FinMap, get};
 ghost use Rattle.change_ops.specs.Operations.{id_of};
 ghost use Rattle.change_ops.specs.declared.operation.Op.{Op};
 ghost use Rattle.char_sequence.specs.Acceptance.{Used};
@@ -28,6 +32,18 @@ impl Model for Newest {
     ghost view = { λ n. from_entries n.counters.entries };
 }
 
+/// Gives a peer that has a counter its earlier one.
+fn put_back(counters: &mut IndexMap<u16, u64>, node: u16, before: u64)
+    requires { IsSome (get_counter nat_eq counters.old node) }
+    ensures here { get_counter nat_eq counters.new node ≡ Some before }
+    ensures others { (other : ℕ) → (node ≡ other → ⊥)
+        → get_counter nat_eq counters.new other ≡ get_counter nat_eq counters.old other }
+{
+    if let Some(counter) = counters.get_mut(&node) {
+        *counter = before;
+    }
+}
+
 impl Newest {
     /// No operation is noted.
     pub fn new(alloc: Global) -> Self
@@ -42,6 +58,13 @@ impl Newest {
     pub fn last(&self, node: u16) -> Option<u64>
         ensures { (ops : List Op) → IsNewest ops self.now
             → MatchOption result ((o : Op) → Contains ops o → (id_of o).node ≡ node → ⊥) (IsLast ops node) }
+    {
+        self.counters.get(&node).copied()
+    }
+
+    /// What is kept of a peer.
+    pub(crate) fn kept(&self, node: u16) -> Option<u64>
+        ensures { result ≡ get self.now node }
     {
         self.counters.get(&node).copied()
     }
@@ -71,10 +94,26 @@ impl Newest {
         requires { (ops : List Op) × IsNewest ops self.old × (Used ops id → ⊥) }
         ensures noted { (ops : List Op) (op : Op) → id_of op ≡ id → IsNewest ops self.old
             → IfOk result (λ _. IsNewest (ops ++ op ∷ []) self.new) }
+        ensures here { IfOk result (λ _. get self.new id.node ≡ Some id.counter) }
+        ensures others { IfOk result (λ _. (node : ℕ) → (node ≡ id.node → ⊥) → get self.new node ≡ get self.old node) }
         ensures err { IfErr result (λ _. self.new ≡ self.old) }
     {
         self.counters.insert(id.node(), id.counter())?;
         Ok(())
+    }
+
+    /// Takes a note back, before which this was kept of the peer.
+    pub(crate) fn restore(&mut self, node: u16, kept: Option<u64>)
+        requires { get self.old node ≡ None → ⊥ }
+        ensures { (before : FinMap nat_cmp ℕ) → get before node ≡ kept
+            → ((other : ℕ) → (other ≡ node → ⊥) → get before other ≡ get self.old other) → self.new ≡ before }
+    {
+        match kept {
+            Some(before) => put_back(&mut self.counters, node, before),
+            None => {
+                self.counters.swap_remove(&node);
+            }
+        }
     }
 }
 

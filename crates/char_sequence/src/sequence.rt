@@ -4,6 +4,7 @@ ghost use Rattle.std.specs.Prelude.{◌+◌, ◌^◌, Contains, insert, take, dr
 
 use crate::chunk_list::ChunkList;
 use crate::elements::Elements;
+use crate::entering::{enter_removal, enter_revival};
 use crate::newest::Newest;
 use crate::place_table::PlaceTable;
 use crate::visible_cursor::VisibleCursor;
@@ -12,6 +13,7 @@ use change_ops::id::OpId;
 use change_ops::operation::{Named, Op};
 use change_ops::size::{BYTE_LIMIT, Size};
 use refusal_titles::{DOCUMENT_FULL, STALE_COUNTER, UNKNOWN_REF};
+use removal_runs::removals::Removals;
 use std::alloc::{AllocError, Global};
 use std::marker::Model;
 use thiserror::Error;
@@ -21,20 +23,20 @@ use thiserror::Error;
 pub struct Element {
     pub id: OpId,
     pub character: Character,
-    /// Whether no operation removes it; a removed character stays as a tombstone.
+    /// Whether each of its removals is taken back; a removed character stays as a tombstone.
     pub visible: bool,
 }
 
 /// Why an operation is not accepted.
 #[derive(Clone, Copy, Debug, PartialEq, Eq, Error)]
 pub enum SequenceError {
-    /// Its counter is not above its peer's last one, or that of a character that it names.
+    /// Its counter is not above its peer's last one, or that of a character or a removal that it names.
     #[error("{STALE_COUNTER}")]
     StaleCounter,
-    /// A character that it names is not there.
+    /// A character or a removal that it names is not there.
     #[error("{UNKNOWN_REF}")]
     UnknownRef,
-    /// It inserts one character too many.
+    /// It inserts one character too many, or shows one that the text has no room for.
     #[error("{DOCUMENT_FULL}")]
     DocumentFull,
 }
@@ -42,11 +44,13 @@ pub enum SequenceError {
 /// The most characters that a text has at any size, removed ones too.
 pub const CHARACTER_LIMIT: usize = 262144;
 
-/// The characters of a text in order, and the last counter of each peer, as a set of inserts and removals makes them.
+/// The characters of a text in order, the last counter of each peer, and the removals, as a set of inserts, removals
+/// and revivals makes them.
 #[derive(Drop)]
 pub struct Sequence {
     elements: ChunkList,
     newest: Newest,
+    removals: Removals,
 }
 
 impl Model for Sequence {
@@ -65,24 +69,27 @@ impl Model for Sequence {
 
     ghost coded = { Prim.hlevel (codes, code {R = nat_cmp} coded_ℕ coded_ℕ) };
 
-    ghost view = { λ s. record { elements = joined s.elements.chunks; newest = s.newest } };
+    ghost view = { λ s. record { elements = joined s.elements.chunks; newest = s.newest; removals = s.removals } };
 
     ghost invariant = { λ s. (length (joined s.elements.chunks) ≤ CHARACTER_LIMIT)
         × (length (visible_text (joined s.elements.chunks)) ≤ BYTE_LIMIT)
-        × ((ops : List Op) × Holds (record { elements = joined s.elements.chunks; newest = s.newest }) ops) };
+        × ((ops : List Op)
+        × Holds (record { elements = joined s.elements.chunks; newest = s.newest; removals = s.removals }) ops) };
 }
 
 ghost use Rattle.change_ops.specs.Ids.{Less};
-ghost use Rattle.change_ops.specs.Operations.{id_of, is_insert, Names, bytes_of};
+ghost use Rattle.change_ops.specs.Operations.{id_of, is_insert, Names, NamesRemoval};
 ghost use Rattle.change_ops.specs.Runs.{inserts_from};
-ghost use Rattle.char_sequence.specs.Tree.{Present, Removed, IsTree};
+ghost use Rattle.char_sequence.specs.Tree.{Present, IsRemoval, IsHidden};
+ghost use Rattle.removal_runs.specs.Open.{Removes, IsOnlyOpen};
 ghost use Rattle.char_sequence.specs.Order.{IsAt, IsText, Shows, SameSet};
 ghost use Rattle.change_ops.specs.declared.size.Size.TheVariants.{Small, Large};
 ghost use Rattle.change_ops.specs.declared.size.TheConstants.{BYTE_LIMIT};
 ghost use Rattle.change_ops.specs.Sizes.{most_characters};
-ghost use Rattle.char_sequence.specs.Acceptance.{IsStale, IsUnknown, HasNoRoom, Accepts, Checked};
+ghost use Rattle.char_sequence.specs.Acceptance.{NamesId, IsStale, IsUnknown, ShowsCharacter, HasNoRoom, Accepts};
+ghost use Rattle.char_sequence.specs.Acceptance.{Checked, most_growth};
 ghost use Rattle.char_sequence.specs.Newest.{IsNewest};
-ghost use Rattle.char_sequence.specs.Held.{Holds};
+ghost use Rattle.char_sequence.specs.Held.{Holds, HoldsRemovals, HasInserts};
 ghost use Rattle.char_sequence.specs.Index.{HasId};
 ghost use Rattle.char_sequence.specs.Chunks.{joined, AreInChunks};
 ghost use Rattle.char_sequence.specs.Visible.{visible_text, visible_count, IsFirstVisible, IsLastVisible};
@@ -109,14 +116,25 @@ fn is_there(elements: &ChunkList, named: Option<OpId>) -> bool
     }
 }
 
-/// Whether the operation's counter is above those of the characters that it names.
+/// The removal that the operation names, if it names one.
+pub fn named_removal(op: &Op) -> Option<OpId>
+    ensures { (r : OpId) → NamesRemoval op.now r ↔ result ≡ Some r }
+{
+    match op {
+        Op::Revive { removal, .. } => Some(*removal),
+        Op::Insert { .. } | Op::Remove { .. } => None,
+        Op::AddMark { .. } | Op::RemoveMark { .. } => None,
+    }
+}
+
+/// Whether the operation's counter is above those of the characters and of the removal that it names.
 pub fn is_above_named(op: &Op) -> bool
-    ensures yes { result ≡ true → (x : OpId) → Names op.now x → x.counter < (id_of op.now).counter }
-    ensures no { result ≡ false → (x : OpId) × Names op.now x × ((id_of op.now).counter ≤ x.counter) }
+    ensures yes { result ≡ true → (x : OpId) → NamesId op.now x → x.counter < (id_of op.now).counter }
+    ensures no { result ≡ false → (x : OpId) × NamesId op.now x × ((id_of op.now).counter ≤ x.counter) }
 {
     let id = op.id();
     let Named { first, second } = op.named();
-    is_above(id, first) && is_above(id, second)
+    is_above(id, first) && is_above(id, second) && is_above(id, named_removal(op))
 }
 
 /// Whether the operation's counter is not above each that it has to be above.
@@ -128,13 +146,37 @@ fn is_stale(newest: &Newest, op: &Op) -> bool
 }
 
 /// Whether a character that the operation names is not there.
-fn is_unknown(elements: &ChunkList, op: &Op) -> bool
+fn lacks_character(elements: &ChunkList, op: &Op) -> bool
     ensures yes { (ops : List Op) → IsText ops (joined elements.now.chunks) → result ≡ true → IsUnknown ops op.now }
     ensures no { (ops : List Op) → IsText ops (joined elements.now.chunks) → result ≡ false → (x : OpId)
         → Names op.now x → Present ops x }
 {
     let Named { first, second } = op.named();
     !is_there(elements, first) || !is_there(elements, second)
+}
+
+/// Whether the removal that the operation names, if it names one, is not there.
+fn lacks_removal(removals: &Removals, op: &Op) -> bool
+    ensures yes { (ops : List Op) → HoldsRemovals removals.now ops → result ≡ true → IsUnknown ops op.now }
+    ensures no { (ops : List Op) → HoldsRemovals removals.now ops → result ≡ false → (r : OpId)
+        → NamesRemoval op.now r → IsRemoval ops r }
+{
+    match named_removal(op) {
+        Some(removal) => removals.target_of(removal).is_none(),
+        None => false,
+    }
+}
+
+/// Whether a character or a removal that the operation names is not there.
+fn is_unknown(elements: &ChunkList, removals: &Removals, op: &Op) -> bool
+    ensures yes { (ops : List Op) → IsText ops (joined elements.now.chunks) → HoldsRemovals removals.now ops
+        → result ≡ true → IsUnknown ops op.now }
+    ensures characters { (ops : List Op) → IsText ops (joined elements.now.chunks) → result ≡ false → (x : OpId)
+        → Names op.now x → Present ops x }
+    ensures removal { (ops : List Op) → HoldsRemovals removals.now ops → result ≡ false → (r : OpId)
+        → NamesRemoval op.now r → IsRemoval ops r }
+{
+    lacks_character(elements, op) || lacks_removal(removals, op)
 }
 
 impl Sequence {
@@ -145,6 +187,7 @@ impl Sequence {
         Sequence {
             elements: ChunkList::new(alloc),
             newest: Newest::new(alloc),
+            removals: Removals::new(alloc),
         }
     }
 
@@ -156,10 +199,11 @@ impl Sequence {
         if is_stale(&self.newest, op) {
             return Err(SequenceError::StaleCounter);
         }
-        if is_unknown(&self.elements, op) {
+        if is_unknown(&self.elements, &self.removals, op) {
             return Err(SequenceError::UnknownRef);
         }
-        if op.is_insert() && (self.elements.len() >= size.characters() || self.has_no_room(op)) {
+        let is_one_too_many = op.is_insert() && self.elements.len() >= size.characters();
+        if is_one_too_many || self.has_no_room(op) {
             return Err(SequenceError::DocumentFull);
         }
         Ok(())
@@ -173,12 +217,30 @@ impl Sequence {
         self.elements.bytes()
     }
 
-    /// Whether the visible text has no room for the character of an insert.
-    pub fn has_no_room(&self, op: &Op) -> bool
-        ensures { (ops : List Op) → Shows self.now.elements ops → is_insert op.now ≡ true
-            → IsTrue result ↔ HasNoRoom ops op.now }
+    /// The character that the operation shows: an insert's, or that of a removal that alone hides it.
+    fn character_shown(&self, op: &Op) -> Option<Character>
+        ensures { (ops : List Op) → Holds self.now ops
+            → MatchOption result ((c : ℕ) → ShowsCharacter ops op.now c → ⊥) (ShowsCharacter ops op.now) }
     {
-        self.elements.bytes() + op.byte_count() > BYTE_LIMIT
+        match op {
+            Op::Insert { character, .. } => Some(*character),
+            Op::Revive { removal, .. } => {
+                let target = self.removals.shows(*removal)?;
+                let element = self.elements.element_of(target)?;
+                Some(element.character)
+            }
+            Op::Remove { .. } | Op::AddMark { .. } | Op::RemoveMark { .. } => None,
+        }
+    }
+
+    /// Whether the visible text has no room for the character that the operation shows.
+    pub fn has_no_room(&self, op: &Op) -> bool
+        ensures { (ops : List Op) → Holds self.now ops → IsTrue result ↔ HasNoRoom ops op.now }
+    {
+        match self.character_shown(op) {
+            Some(character) => self.elements.bytes() + character.value().len_utf8() > BYTE_LIMIT,
+            None => false,
+        }
     }
 
     /// Adds an insert that passed `check`; the error is want of memory, and changes nothing.
@@ -246,8 +308,35 @@ impl Sequence {
         let Op::Remove { id, target } = op else {
             unreachable!();
         };
-        self.newest.note(*id)?;
-        self.elements.hide(*target);
+        let element = self.elements.element_of(*target).unwrap();
+        enter_removal(
+            &mut self.newest,
+            &mut self.removals,
+            *id,
+            *target,
+            !element.visible,
+        )?;
+        self.elements.set_visible(*target, false);
+        Ok(())
+    }
+
+    /// Adds a revival that passed `check`; the error is want of memory, and changes nothing.
+    pub fn revive(&mut self, op: &Op) -> Result<(), AllocError>
+        requires revival { (v : OpId) × ((r : OpId) × (op.now ≡ Op.Revive v r)) }
+        requires accepted { (ops : List Op) → Holds self.old ops → Accepts Large ops op.now }
+        ensures held { (ops : List Op) → Holds self.old ops → IfOk result (λ _. Holds self.new (ops ++ op.now ∷ [])) }
+        ensures shows { (ops part : List Op) → HasInserts ops part → Holds self.old part → Shows self.old.elements ops
+            → Accepts Large ops op.now → IfOk result (λ _. Shows self.new.elements (ops ++ op.now ∷ [])) }
+        ensures err { IfErr result (λ _. self.new ≡ self.old) }
+    {
+        let Op::Revive { id, removal } = op else {
+            unreachable!();
+        };
+        let shown = enter_revival(&mut self.newest, &mut self.removals, *id, *removal)?;
+        match shown {
+            Some(target) => self.elements.set_visible(target, true),
+            None => {}
+        }
         Ok(())
     }
 
@@ -287,12 +376,43 @@ impl Sequence {
     /// Whether the character is there and not removed.
     pub fn visible(&self, id: OpId) -> bool
         ensures { (ops : List Op) → Shows self.now.elements ops
-            → IsTrue result ↔ Present ops id × (Removed ops id → ⊥) }
+            → IsTrue result ↔ Present ops id × (IsHidden ops id → ⊥) }
     {
         match self.elements.element_of(id) {
             Some(element) => element.visible,
             None => false,
         }
+    }
+
+    /// The character that the removal with this id removes, if there is such a removal.
+    pub fn removed_by(&self, removal: OpId) -> Option<OpId>
+        ensures cases { MatchOption result ((x : OpId) → Removes self.now.removals removal x → ⊥)
+            (Removes self.now.removals removal) }
+        ensures only { (x : OpId) → Removes self.now.removals removal x → result ≡ Some x }
+    {
+        self.removals.target_of(removal)
+    }
+
+    /// Whether there is a removal with this id, taken back or not.
+    pub fn has_removal(&self, removal: OpId) -> bool
+        ensures { (ops : List Op) → Holds self.now ops → IsTrue result ↔ IsRemoval ops removal }
+    {
+        self.removals.target_of(removal).is_some()
+    }
+
+    /// Whether the removal is taken back.
+    pub fn is_taken_back(&self, removal: OpId) -> bool
+        ensures { IsTrue result ↔ Contains self.now.removals.back removal }
+    {
+        self.removals.is_taken_back(removal)
+    }
+
+    /// The hidden character that is shown once the removal is taken back, if there is one.
+    pub fn shown_without(&self, removal: OpId) -> Option<OpId>
+        ensures { MatchOption result ((x : OpId) → IsOnlyOpen self.now.removals removal x → ⊥)
+            (IsOnlyOpen self.now.removals removal) }
+    {
+        self.removals.shows(removal)
     }
 
     /// The character at a place, which counts removed ones too, if there is one.
@@ -395,7 +515,12 @@ impl Clone for Sequence {
     fn clone(&self) -> Result<Sequence, AllocError> {
         let elements = self.elements.clone()?;
         let newest = self.newest.clone()?;
-        Ok(Sequence { elements, newest })
+        let removals = self.removals.clone()?;
+        Ok(Sequence {
+            elements,
+            newest,
+            removals,
+        })
     }
 }
 
@@ -411,14 +536,17 @@ pub fn small_is_large()
     ensures { (ops : List Op) (op : Op) → Accepts Small ops op → Accepts Large ops op }
 {}
 
-/// The law that as many characters as the small size allows always have room for their bytes.
+/// The law that as many characters as the small size allows always have room for their bytes, also where hidden ones of
+/// them are shown again.
 pub fn small_has_room(sequence: &Sequence)
-    ensures { (ops : List Op) (op : Op) → Holds sequence.now ops → count_by is_insert ops < most_characters Small
-        → HasNoRoom ops op → ⊥ }
+    ensures inserts { (ops : List Op) (op : Op) → Holds sequence.now ops
+        → count_by is_insert ops < most_characters Small → HasNoRoom ops op → ⊥ }
+    ensures revivals { (ops : List Op) (op : Op) → Holds sequence.now ops
+        → count_by is_insert ops ≤ most_characters Small → is_insert op ≡ false → HasNoRoom ops op → ⊥ }
 {}
 
-/// The law that more operations lengthen the visible text by no more bytes than they insert.
+/// The law that more operations lengthen the visible text by no more bytes than they insert, and four for a revival.
 pub fn text_grows_by()
     ensures { (ops added : List Op) (es later : List Element) → Shows es ops → Shows later (ops ++ added)
-        → length (visible_text later) ≤ length (visible_text es) + sum (map bytes_of added) }
+        → length (visible_text later) ≤ length (visible_text es) + sum (map most_growth added) }
 {}

@@ -1,24 +1,39 @@
 -- Runs, one after another.
-use Rattle.std.proofs.Common.{◌≡◌, ℕ, ◌+◌, ◌-◌, ◌<◌, ◌≤◌, zero, suc, List, [], ◌∷◌, ◌++◌, Some, length, take, drop, get_or, sym, ap, ◌∙◌, arith}
+use Rattle.std.proofs.Common.{◌≡◌, ℕ, ◌+◌, ◌-◌, ◌<◌, ◌≤◌, zero, suc, List, [], ◌∷◌, ◌++◌, Bor, Option, Some, length, take, drop, get_or, sym, ap, ◌∙◌, arith}
 use Rattle.std.specs.List.{slice_get}
-use Rattle.std.proofs.lemmas.Option.{get_or_from_slice_get, slice_get_within}
-use Rattle.std.proofs.lemmas.List.{drop_more, length-drop}
+use Rattle.std.specs.Option.{MatchOption}
+use Rattle.std.proofs.lemmas.Option.{MatchOption-at_some, get_or_from_slice_get}
+use Rattle.std.proofs.lemmas.List.{length-drop}
 use Rattle.piece_tree.specs.Nodes.{pieces_of}
 use Rattle.piece_tree.proofs.Lists.{drop_pieces, take_pieces}
 use Rattle.format_runs.specs.Runs.{Run, character_count}
 use Rattle.format_runs.proofs.Formats.{count_append}
 use Rattle.format_runs.proofs.Pieces.{IsIn}
 
--- the runs of a piece and of those behind it
-from_piece : (ps : List (List Run)) (k : ℕ) (p : List Run) → slice_get ps k ≡ Some p → pieces_of (drop k ps) ≡ p ++ pieces_of (drop (k + 1) ps)
-from_piece ps k p is =
-    ap pieces_of (drop_more ps k [] (slice_get_within ps k p is)) ∙ ap (λ (l : List Run). l ++ pieces_of (drop (k + 1) ps)) (get_or_from_slice_get ps k p [] is)
+-- the first that is left, and what is left behind it
+pub first_left : {X : Type 0} (xs rest : List X) (i : ℕ) (x : X) → drop i xs ≡ x ∷ rest → slice_get xs i ≡ Some x
+first_left {X} xs rest zero x e = ap (λ (l : List X). slice_get l 0) e
+first_left [] rest (suc i) x e = absurd cc
+first_left (y ∷ xs) rest (suc i) x e = first_left xs rest i x e
 
--- where nothing is left of a piece, the next one has the next run
-pub next_piece : (ps : List (List Run)) (k : ℕ) (none p rest left : List Run) (r : Run) → none ≡ [] → none ++ pieces_of (drop k ps) ≡ left
-    → slice_get ps k ≡ Some p → p ≡ r ∷ rest → left ≡ r ∷ (rest ++ pieces_of (drop (k + 1) ps))
-next_piece ps k none p rest left r empty view is cut =
-    sym view ∙ ap (λ (l : List Run). l ++ pieces_of (drop k ps)) empty ∙ from_piece ps k p is ∙ ap (λ (l : List Run). l ++ pieces_of (drop (k + 1) ps)) cut
+behind_first : {X : Type 0} (xs rest : List X) (i : ℕ) (x : X) → drop i xs ≡ x ∷ rest → drop (suc i) xs ≡ rest
+behind_first {X} xs rest zero x e = ap (λ (l : List X). drop 1 l) e
+behind_first [] rest (suc i) x e = absurd cc
+behind_first (y ∷ xs) rest (suc i) x e = behind_first xs rest i x e
+
+pub rest_left : {X : Type 0} (xs rest : List X) (i : ℕ) (x : X) → drop i xs ≡ x ∷ rest → drop (i + 1) xs ≡ rest
+rest_left {X} xs rest i x e =
+    let on : i + 1 ≡ suc i = omega arith in
+    ap (λ (n : ℕ). drop n xs) on ∙ behind_first xs rest i x e
+
+pub none_left : {X : Type 0} (xs : List X) (i : ℕ) → drop i xs ≡ [] → length xs ≤ i
+none_left xs i e = omega (arith, ap length e, length-drop i xs)
+
+-- the next piece of a walk from an index on
+pub next_piece : (ps all rest : List (List Run)) (k : ℕ) (next : Option (Bor (List Run))) (piece : Bor (List Run)) → all ≡ drop k ps
+    → next ≡ Some piece → MatchOption next ((all ≡ []) × (rest ≡ [])) (λ x. all ≡ x.now ∷ rest) → drop k ps ≡ piece.now ∷ rest
+next_piece ps all rest k next piece from some steps =
+    sym from ∙ MatchOption-at_some ((all ≡ []) × (rest ≡ [])) (λ (x : Bor (List Run)). all ≡ x.now ∷ rest) piece some steps
 
 -- what is left from an index in a piece on
 pub left_from : (ps : List (List Run)) (piece before index : ℕ) (runs : List Run) → IsIn ps piece before index → slice_get ps piece ≡ Some runs
@@ -39,12 +54,3 @@ start_of ps piece before index start more runs i is started counted =
     let taken : take index (pieces_of ps) ≡ pieces_of (take piece ps) ++ take o runs =
     take_pieces ps piece o index i.inside (omega arith) sum ∙ ap (λ l. pieces_of (take piece ps) ++ take o l) own in
     omega (arith, ap character_count taken, count_append (pieces_of (take piece ps)) (take o runs), started, counted)
-
--- ---- the first run that is left
-pub first_left : (runs rest : List Run) (i : ℕ) (r : Run) → drop i runs ≡ r ∷ rest → slice_get runs i ≡ Some r
-first_left runs rest zero r e = ap (λ (l : List Run). slice_get l 0) e
-first_left [] rest (suc i) r e = absurd cc
-first_left (x ∷ runs) rest (suc i) r e = first_left runs rest i r e
-
-pub none_left : (runs : List Run) (i : ℕ) → drop i runs ≡ [] → length runs ≤ i
-none_left runs i e = omega (arith, ap length e, length-drop i runs)

@@ -121,21 +121,17 @@ impl SharedRuns {
         self.pieces.keeps();
         if index >= self.count() {
             let none = RunsFrom {
-                pieces: &self.pieces,
-                index: self.pieces.len(),
                 rest: &[],
+                pieces: self.pieces.pieces_from(self.pieces.len()),
             };
             return (none, self.character_count());
         }
         let spot = self.pieces.spot(Measure::Parts, index + 1);
-        let runs = self.pieces.piece(spot.index).runs();
+        let mut pieces = self.pieces.pieces_from(spot.index);
+        let runs = pieces.next().unwrap().runs();
         let (before, rest) = runs.split_at(index - spot.parts);
-        let left = RunsFrom {
-            pieces: &self.pieces,
-            index: spot.index + 1,
-            rest,
-        };
-        (left, spot.characters + characters_of(before))
+        let start = spot.characters + characters_of(before);
+        (RunsFrom { rest, pieces }, start)
     }
 
     /// The runs with those of the rows in place of the characters from `from` up to `to`. The rows begin and end with

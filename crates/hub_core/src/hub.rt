@@ -21,7 +21,7 @@ ghost use Rattle.hub_core.specs.Machine.{HasNoPlace, HasNone, IsOpen, Misses, Fi
 
 use crate::counts::{Counts, greatest_lag};
 use crate::error::{CommitError, NoSubscriber, SubscribeError};
-use crate::memory::change_bytes;
+use crate::memory::Cost;
 use change_history::history::{Draft, History};
 use change_history::refusal::SubmitError;
 use change_log::text::ChangeText;
@@ -146,6 +146,14 @@ fn append_draft<N: Naming, R: Wait>(
     Ok(token)
 }
 
+/// How many characters the latest version shows.
+fn shown<N: Naming>(published: &Published<'_, N>, versions: &[VersionToken<N>]) -> usize {
+    match versions.last() {
+        Some(latest) => published.look(latest).character_count(),
+        None => 0,
+    }
+}
+
 /// Publishes version 0.
 fn publish_start<N: Naming, R: Wait>(
     rt: &R,
@@ -215,9 +223,9 @@ impl<'p, N: Naming, S: Sink<Item<N>>> Core<'p, N, S> {
     ) -> Result<VersionToken<N>, SubmitError>
         ensures { Submits self.old change result self.new }
     {
-        let bytes = change_bytes(&change);
+        let cost = Cost::of(&change);
         let draft = self.history.draft(change)?;
-        self.append(rt, draft, bytes)
+        self.append(rt, draft, cost)
     }
 
     /// The same for a caller that has the change's text, which is kept and not written again.
@@ -230,9 +238,9 @@ impl<'p, N: Naming, S: Sink<Item<N>>> Core<'p, N, S> {
         requires spelled { text ≡ change_text change }
         ensures { Submits self.old change result self.new }
     {
-        let bytes = change_bytes(&change);
+        let cost = Cost::of(&change);
         let draft = self.history.draft_spelled(change, text)?;
-        self.append(rt, draft, bytes)
+        self.append(rt, draft, cost)
     }
 
     /// Appends the draft of a change and publishes its version. Where that fails it is paid for nothing.
@@ -240,14 +248,15 @@ impl<'p, N: Naming, S: Sink<Item<N>>> Core<'p, N, S> {
         &mut self,
         rt: &R,
         draft: Draft,
-        bytes: usize,
+        cost: Cost,
     ) -> Result<VersionToken<N>, SubmitError>
         requires { (change : Change) × IsDraft self.old.size self.old.changes change draft }
         ensures { (change : Change) → IsDraft self.old.size self.old.changes change draft
             → Submits self.old change result self.new }
     {
+        let before = shown(&self.published, self.versions.as_slice());
         let mut after = Budget::new(self.budget.left());
-        after.pay(bytes);
+        after.pay(cost.bytes());
         let token = append_draft(
             rt,
             self.alloc,
@@ -257,6 +266,8 @@ impl<'p, N: Naming, S: Sink<Item<N>>> Core<'p, N, S> {
             draft,
             &mut after,
         );
+        let hidden = before.saturating_sub(shown(&self.published, self.versions.as_slice()));
+        after.pay(cost.count_bytes(hidden));
         if token.is_ok() {
             self.budget = after;
         }

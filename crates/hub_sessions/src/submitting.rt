@@ -201,7 +201,7 @@ pub(crate) fn submit<N: Naming + HistoryNaming + Ledger, R: Wait + Copy, K: Keep
     ensures same { K.stores keeper.new ≡ K.stores keeper.old }
 {
     // It is under way until it is shown or refused.
-    let _counted = hub.hub.begin_change();
+    let _counted = hub.hub.begin_change(&change);
     let bytes = match admit(hub, share, *left, &change) {
         Ok(bytes) => bytes,
         Err(why) => return Reply::Refused(why),

@@ -29,7 +29,14 @@ struct Letter {
     id: Id,
     parent: Option<Id>,
     code: char,
-    removed: bool,
+}
+
+/// A removal of a character, and whether it is taken back.
+#[derive(Clone, Copy)]
+struct Removal {
+    id: Id,
+    target: Id,
+    is_back: bool,
 }
 
 /// An operation on one of the keys of `KEYS`, by its index; a removal has no value.
@@ -53,7 +60,7 @@ static KEYS: [(&str, &str, &str, &str, &str); 7] = [
     ("comment:10", "-", "comment:10", "-", "comment:10"),
 ];
 
-/// The key that changes of the second form alone have, by its index.
+/// The key that changes of the first form don't have, by its index.
 const CODE: usize = 2;
 
 /// The form of a change.
@@ -61,6 +68,14 @@ const CODE: usize = 2;
 enum Form {
     First,
     Second,
+    Third,
+}
+
+/// How many of a history's characters and removals were there before a round.
+#[derive(Clone, Copy)]
+struct Known {
+    letters: usize,
+    removals: usize,
 }
 
 /// A history of three peers: its operations, and the text of each change by rounds. In a round the peers
@@ -68,6 +83,7 @@ enum Form {
 #[derive(Drop)]
 struct History {
     letters: Vec<Letter>,
+    removals: Vec<Removal>,
     marks: Vec<Mark>,
     rounds: Vec<[String; 3]>,
 }
@@ -92,10 +108,10 @@ struct Choice {
 }
 
 fn any_form(random: &mut Random) -> Form {
-    if random.below(2) == 0 {
-        Form::First
-    } else {
-        Form::Second
+    match random.below(3) {
+        0 => Form::First,
+        1 => Form::Second,
+        _ => Form::Third,
     }
 }
 
@@ -104,7 +120,7 @@ fn any_key(random: &mut Random, form: Form) -> usize {
     let key = random.below(KEYS.len());
     match form {
         Form::First if key == CODE => 0,
-        Form::First | Form::Second => key,
+        Form::First | Form::Second | Form::Third => key,
     }
 }
 
@@ -112,7 +128,68 @@ fn any_key(random: &mut Random, form: Form) -> usize {
 fn any_count(random: &mut Random, form: Form) -> usize {
     match form {
         Form::First => 1,
-        Form::Second => random.below(3).saturating_add(1),
+        Form::Second | Form::Third => random.below(3).saturating_add(1),
+    }
+}
+
+/// The id of the same peer whose counter is greater by one.
+fn next_id(id: Id) -> Id {
+    Id {
+        counter: id.counter.saturating_add(1),
+        node: id.node,
+    }
+}
+
+/// How many of these ids follow one another from the first on, at most as many as `most`.
+fn run_length(first: Id, ids: &[Id], most: usize) -> usize {
+    let mut length: usize = 1;
+    let mut next = next_id(first);
+    for _ in 1..most {
+        if !ids.contains(&next) {
+            break;
+        }
+        length = length.saturating_add(1);
+        next = next_id(next);
+    }
+    length
+}
+
+fn letter_ids(alloc: Global, letters: &[Letter]) -> Result<Vec<Id>, AllocError> {
+    let mut ids = Vec::new(alloc);
+    for letter in letters {
+        ids.push(letter.id)?;
+    }
+    Ok(ids)
+}
+
+fn removal_ids(alloc: Global, removals: &[Removal]) -> Result<Vec<Id>, AllocError> {
+    let mut ids = Vec::new(alloc);
+    for removal in removals {
+        ids.push(removal.id)?;
+    }
+    Ok(ids)
+}
+
+/// How many removals or revivals a line of the form has at most.
+fn most_of(random: &mut Random, form: Form) -> usize {
+    match form {
+        Form::First | Form::Second => 1,
+        Form::Third => random.below(3).saturating_add(1),
+    }
+}
+
+/// Writes the line of a removal, of a revival or of a run of them.
+fn write_run(
+    text: &mut String,
+    kind: &str,
+    id: Id,
+    first: Id,
+    count: usize,
+) -> Result<(), AllocError> {
+    if count == 1 {
+        write!(text, "{kind} {id} {first}\n")
+    } else {
+        write!(text, "{kind} {id} {first} {count}\n")
     }
 }
 
@@ -156,14 +233,9 @@ impl History {
         for _ in 0..count {
             let code = code_of(id);
             write!(text, " {:x}", code as u32)?;
-            self.letters.push(Letter {
-                id,
-                parent,
-                code,
-                removed: false,
-            })?;
+            self.letters.push(Letter { id, parent, code })?;
             parent = Some(id);
-            id.counter = id.counter.saturating_add(1);
+            id = next_id(id);
         }
         text.push('\n')
     }
@@ -173,12 +245,12 @@ impl History {
         random: &mut Random,
         form: Form,
         id: Id,
-        known: usize,
+        known: Known,
         text: &mut String,
     ) -> Result<(), AllocError> {
-        let index = random.below(known.saturating_add(1));
+        let index = random.below(known.letters.saturating_add(1));
         let parent = match self.letters.get(index) {
-            Some(letter) if index < known => Some(letter.id),
+            Some(letter) if index < known.letters => Some(letter.id),
             _ => None,
         };
         let after = Parent(parent);
@@ -191,19 +263,66 @@ impl History {
         self.push_letters(id, parent, count, text)
     }
 
+    /// Removes characters that were inserted one after the other, hidden ones too.
     fn remove(
         &mut self,
         random: &mut Random,
+        form: Form,
         id: Id,
-        known: usize,
+        known: Known,
         text: &mut String,
     ) -> Result<(), AllocError> {
-        if let Some(letter) = self.letters.get_mut(random.below(known)) {
-            letter.removed = true;
-            let removed = letter.id;
-            write!(text, "d {id} {removed}\n")?;
+        let front = self.letters.get(..known.letters).unwrap_or_default();
+        let Some(letter) = front.get(random.below(known.letters)) else {
+            return Ok(());
+        };
+        let first = letter.id;
+        let ids = letter_ids(*self.letters.allocator(), front)?;
+        let count = run_length(first, ids.as_slice(), most_of(random, form));
+        let mut removal = Removal {
+            id,
+            target: first,
+            is_back: false,
+        };
+        for _ in 0..count {
+            self.removals.push(removal)?;
+            removal.id = next_id(removal.id);
+            removal.target = next_id(removal.target);
         }
-        Ok(())
+        write_run(text, "d", id, first, count)
+    }
+
+    /// Takes removals back that were made one after the other, those that are taken back already too.
+    fn revive(
+        &mut self,
+        random: &mut Random,
+        form: Form,
+        id: Id,
+        known: Known,
+        text: &mut String,
+    ) -> Result<(), AllocError> {
+        let front = self.removals.get(..known.removals).unwrap_or_default();
+        let Some(removal) = front.get(random.below(known.removals)) else {
+            return Ok(());
+        };
+        let first = removal.id;
+        let ids = removal_ids(*self.removals.allocator(), front)?;
+        let count = run_length(first, ids.as_slice(), most_of(random, form));
+        let mut next = first;
+        for _ in 0..count {
+            for removal in self.removals.iter_mut() {
+                removal.is_back = removal.is_back || removal.id == next;
+            }
+            next = next_id(next);
+        }
+        write_run(text, "v", id, first, count)
+    }
+
+    /// Whether the character is visible: each of its removals is taken back.
+    fn is_visible(&self, id: Id) -> bool {
+        self.removals
+            .iter()
+            .all(|removal| removal.target != id || removal.is_back)
     }
 
     fn mark(
@@ -211,13 +330,13 @@ impl History {
         random: &mut Random,
         form: Form,
         id: Id,
-        known: usize,
+        known: Known,
         text: &mut String,
     ) -> Result<(), AllocError> {
         let Some(choice) = any_choice(random, form) else {
             return Ok(());
         };
-        let front = self.letters.get(..known).unwrap_or_default();
+        let front = self.letters.get(..known.letters).unwrap_or_default();
         let start = any_anchor(random, front);
         let end = any_anchor(random, front);
         let Choice {
@@ -242,23 +361,29 @@ impl History {
         Ok(())
     }
 
-    /// A change of one line, of either form.
+    /// A change of one line, of any form.
     fn change(
         &mut self,
         alloc: Global,
         random: &mut Random,
         id: Id,
-        known: usize,
+        known: Known,
     ) -> Result<String, AllocError> {
         let form = any_form(random);
         let name = match form {
             Form::First => "change",
             Form::Second => "change2",
+            Form::Third => "change3",
         };
         let mut text = format!(in alloc; "{name} {} 1\n", id.node)?;
-        match random.below(10) {
-            0 if known > 0 => self.remove(random, id, known, &mut text)?,
-            1..=4 if known > 0 => self.mark(random, form, id, known, &mut text)?,
+        match (form, random.below(10)) {
+            (Form::Third, 1 | 2) if known.removals > 0 => {
+                self.revive(random, form, id, known, &mut text)?
+            }
+            (_, 0) | (Form::Third, 1..=3) if known.letters > 0 => {
+                self.remove(random, form, id, known, &mut text)?
+            }
+            (_, 1..=4) if known.letters > 0 => self.mark(random, form, id, known, &mut text)?,
             _ => self.insert(random, form, id, known, &mut text)?,
         }
         Ok(text)
@@ -269,13 +394,17 @@ fn made_history(alloc: Global, seed: u64) -> Result<History, AllocError> {
     let mut random = Random::new(seed);
     let mut history = History {
         letters: Vec::new(alloc),
+        removals: Vec::new(alloc),
         marks: Vec::new(alloc),
         rounds: Vec::new(alloc),
     };
     for round in 0..16u64 {
-        // A round's runs have at most three characters.
+        // A round's runs have at most three operations.
         let counter = round.saturating_mul(3).saturating_add(1);
-        let known = history.letters.len();
+        let known = Known {
+            letters: history.letters.len(),
+            removals: history.removals.len(),
+        };
         let first = history.change(alloc, &mut random, Id { counter, node: 1 }, known)?;
         let second = history.change(alloc, &mut random, Id { counter, node: 2 }, known)?;
         let third = history.change(alloc, &mut random, Id { counter, node: 3 }, known)?;
@@ -383,11 +512,11 @@ fn format_of(alloc: Global, history: &History, id: Id) -> Result<String, AllocEr
 /// The character at a place, where it is visible.
 fn visible_at(
     alloc: Global,
-    letters: &[Letter],
+    history: &History,
     place: usize,
 ) -> Result<Option<Letter>, AllocError> {
-    for letter in letters {
-        if place_of(alloc, letters, letter.id)? == place && !letter.removed {
+    for letter in &history.letters {
+        if place_of(alloc, &history.letters, letter.id)? == place && history.is_visible(letter.id) {
             return Ok(Some(*letter));
         }
     }
@@ -423,7 +552,7 @@ fn spans_of(alloc: Global, history: &History) -> Result<String, AllocError> {
         format: String::new(alloc),
     };
     for place in 0..history.letters.len() {
-        if let Some(letter) = visible_at(alloc, &history.letters, place)? {
+        if let Some(letter) = visible_at(alloc, history, place)? {
             lines.push(format_of(alloc, history, letter.id)?, letter.code)?;
         }
     }

@@ -20,6 +20,7 @@ use crate::turns::{Turn, Turns};
 use crate::under_way::{Counted, UnderWay};
 use call_history::knowledge::HistoryNaming;
 use change_log::text::ChangeText;
+use change_ops::change::Change;
 use change_ops::size::Size;
 use core_history::entry::CoreBoard;
 use core_history::recorded_core::RecordedCore;
@@ -188,17 +189,16 @@ impl<'p, N: Naming + HistoryNaming + Ledger, R: Wait + Copy> Hub<'p, N, R> {
         self.hold(rt).books.taken_bytes()
     }
 
-    /// Counts a change that a session wants to submit, for as long as what is answered is kept.
-    pub fn begin_change(&self) -> Counted<'_> {
-        self.changes.begin()
+    /// Counts the most that a change may take that a session wants to submit, for as long as what is answered is kept.
+    pub fn begin_change(&self, change: &Change) -> Counted<'_> {
+        self.changes.begin(most_bytes(self.size(), change))
     }
 
     /// Whether the document, which may take so many bytes in all, may take those of all changes that are under way,
     /// whatever they touch. So one that is counted first, and then asks, has its memory, whichever comes before it.
     pub fn has_memory(&self, rt: &R, limit: u64) -> bool {
         // One that is shown between the two looks is counted twice, and not left out.
-        let changes = self.changes.count();
-        let more = changes.saturating_mul(most_bytes(self.size()));
+        let more = self.changes.count();
         self.taken_bytes(rt).saturating_add(more) <= limit
     }
 
@@ -209,7 +209,7 @@ impl<'p, N: Naming + HistoryNaming + Ledger, R: Wait + Copy> Hub<'p, N, R> {
 
     /// Counts a session for as long as what is answered is kept.
     pub fn begin_session(&self) -> Counted<'_> {
-        self.sessions.begin()
+        self.sessions.begin(1)
     }
 
     /// The texts of `most` accepted changes behind a version, or of as many as there were; None where no version had

@@ -1,7 +1,7 @@
-//! How many sessions, or changes, are under way.
+//! How many sessions are under way, and how much memory the changes may take that are.
 use std::sync::atomic::{AtomicU64, Ordering};
 
-/// Counts those that began and didn't end.
+/// Counts those that began and didn't end, each by its amount.
 #[derive(Drop)]
 pub(crate) struct UnderWay {
     count: AtomicU64,
@@ -10,6 +10,7 @@ pub(crate) struct UnderWay {
 /// One that is counted until this is dropped.
 pub struct Counted<'c> {
     all: &'c UnderWay,
+    amount: u64,
 }
 
 impl UnderWay {
@@ -24,16 +25,16 @@ impl UnderWay {
         self.count.load(Ordering::SeqCst)
     }
 
-    /// Counts one more.
-    pub(crate) fn begin(&self) -> Counted<'_> {
-        self.count.fetch_add(1, Ordering::SeqCst);
-        Counted { all: self }
+    /// Counts one more, of this amount.
+    pub(crate) fn begin(&self, amount: u64) -> Counted<'_> {
+        self.count.fetch_add(amount, Ordering::SeqCst);
+        Counted { all: self, amount }
     }
 }
 
 impl Drop for Counted<'_> {
     fn drop(self) {
-        let Counted { all } = self;
-        all.count.fetch_sub(1, Ordering::SeqCst);
+        let Counted { all, amount } = self;
+        all.count.fetch_sub(amount, Ordering::SeqCst);
     }
 }

@@ -4,8 +4,8 @@ use std::alloc::Global;
 use std::test::Fail;
 use test_inputs::lines::lines;
 
-/// Changes of both forms with lines of all kinds.
-static CHANGES: [&str; 11] = [
+/// Changes of each form with lines of all kinds.
+static CHANGES: [&str; 12] = [
     "change 1 4 / i 1@1 - 61 / i 2@1 1@1 62 / i 3@1 2@1 63 / m 4@1 strong - <1@1 <3@1",
     "change 2 1 / u 4@2 strong <2@1 $",
     "change 1 5 / i 1@1 - 61 / i 2@1 1@1 62 / i 3@1 2@1 63 / m 4@1 strong - <1@1 <3@1 / i 5@1 2@1 78",
@@ -17,6 +17,7 @@ static CHANGES: [&str; 11] = [
     "change 3 2 / d 3@3 2@2 / m 4@3 em - <2@2 >2@1",
     "change 1 6 / i 1@1 - 61 / i 2@1 1@1 62 / m 3@1 color ff0080 ^ $ / m 4@1 comment:7 - >1@1 $ / m 5@1 comment:2 - ^ <2@1 / m 6@1 em - $ ^",
     "change2 1 2 / r 1@1 - 3 61 62 63 / m 4@1 code - >1@1 $",
+    "change3 1 5 / r 1@1 - 3 61 62 63 / d 4@1 1@1 3 / v 7@1 4@1 2 / v 9@1 6@1 / m 10@1 code - >1@1 $",
 ];
 
 /// Whether a text is a change cut short.

@@ -8,7 +8,7 @@ use std::alloc::{AllocError, Global};
 use std::test::Fail;
 use test_inputs::lines::lines;
 
-/// Takes an insert or a removal, if it is accepted.
+/// Takes an operation, if it is accepted; one of a mark changes nothing.
 fn deliver(sequence: &mut Sequence, op: &Op) -> Result<bool, AllocError> {
     if sequence.check(Size::Large, op).is_err() {
         return Ok(false);
@@ -16,7 +16,8 @@ fn deliver(sequence: &mut Sequence, op: &Op) -> Result<bool, AllocError> {
     match op {
         Op::Insert { .. } => sequence.insert(op)?,
         Op::Remove { .. } => sequence.remove(op)?,
-        _ => {}
+        Op::Revive { .. } => sequence.revive(op)?,
+        Op::AddMark { .. } | Op::RemoveMark { .. } => {}
     }
     Ok(true)
 }
@@ -33,6 +34,22 @@ pub(crate) fn deliver_line(sequence: &mut Sequence, line: &Line) -> Result<bool,
             }
             Ok(true)
         }
+        Line::Removals(run) => {
+            for index in 0..run.count() as usize {
+                if !deliver(sequence, &run.removal(index))? {
+                    return Ok(false);
+                }
+            }
+            Ok(true)
+        }
+        Line::Revivals(run) => {
+            for index in 0..run.count() as usize {
+                if !deliver(sequence, &run.revival(index))? {
+                    return Ok(false);
+                }
+            }
+            Ok(true)
+        }
     }
 }
 
@@ -41,6 +58,15 @@ static CHANGES: [&str; 3] = [
     "change 1 2 / i 1@1 - 61 / i 2@1 1@1 62",
     "change 2 1 / i 2@2 1@1 63",
     "change 1 1 / d 3@1 2@1",
+];
+
+/// Three characters of a run, all removed twice, of which all of the first removals are taken back, and the second of
+/// one.
+static REVIVED: [&str; 4] = [
+    "change2 1 1 / r 1@1 - 3 61 62 63",
+    "change3 1 1 / d 4@1 1@1 3",
+    "change3 2 2 / d 4@2 1@1 3 / v 7@2 4@1 3",
+    "change3 1 1 / v 7@1 5@2",
 ];
 
 /// Whether all operations of the change of that text are taken.
@@ -111,5 +137,17 @@ fn a_sequence_is_asked(rt: HostRuntime) -> Result<(), Fail> {
     let sequence = sequence_of(rt.alloc(), &CHANGES)?.ok_or("an operation is not taken")?;
     let are_right = is_in_order(&sequence) && are_found(&sequence);
     assert!(rt; are_right && are_refused(rt.alloc(), &sequence)?);
+    Ok(())
+}
+
+#[test]
+fn a_character_is_shown_once_all_its_removals_are_taken_back(rt: HostRuntime) -> Result<(), Fail> {
+    let sequence = sequence_of(rt.alloc(), &REVIVED)?.ok_or("an operation is not taken")?;
+    let shown = sequence.elements().map(|element| element.visible);
+    let unknown = refusal(rt.alloc(), &sequence, "change3 1 1 / v 8@1 1@1")?;
+    let stale = refusal(rt.alloc(), &sequence, "change3 3 1 / v 4@3 4@1")?;
+    assert!(rt; shown.eq([false, true, false]));
+    assert!(rt; unknown == Some(SequenceError::UnknownRef));
+    assert!(rt; stale == Some(SequenceError::StaleCounter));
     Ok(())
 }

@@ -10,7 +10,7 @@ use Rattle.change_ops.specs.declared.attribute.Key.{Key}
 use Rattle.change_ops.specs.declared.attribute.Attribute.{Attribute}
 use Rattle.change_ops.specs.declared.operation.Anchor.{Anchor}
 use Rattle.change_ops.specs.declared.operation.Op.{Op}
-use Rattle.change_ops.specs.declared.operation.Op.TheVariants.{Insert, Remove, AddMark, RemoveMark}
+use Rattle.change_ops.specs.declared.operation.Op.TheVariants.{Insert, Remove, AddMark, RemoveMark, Revive}
 use Rattle.char_sequence.specs.declared.sequence.Element.{Element}
 use Rattle.char_sequence.specs.Order.{Shows, IsAt}
 use Rattle.char_sequence.proofs.Ids.{less_trans, less_irrefl, less_cases}
@@ -81,6 +81,7 @@ touches_from_place ops es h key (AddMark id attribute start end) first last k e 
     (of_key, (starts_from_place ops es h start first k e lies.0 at le, ends_from_place ops es h end last k e lies.1 at less))
 touches_from_place ops es h key (RemoveMark id other start end) first last k e of_key lies at le less =
     (of_key, (starts_from_place ops es h start first k e lies.0 at le, ends_from_place ops es h end last k e lies.1 at less))
+touches_from_place ops es h key (Revive id removal) first last k e of_key lies at le less = absurd of_key
 
 pub place_from_touches : (ops : List Op) (es : List Element) → Shows es ops → (key : Key) (o : Op) (first last k : ℕ) (e : OpId) → Lies es o first last → IsAt es e k → Touches ops key e o → (first ≤ k) × (k < last)
 place_from_touches ops es h key (Insert id parent character) first last k e lies at touches = absurd touches
@@ -89,18 +90,21 @@ place_from_touches ops es h key (AddMark id attribute start end) first last k e 
     (place_from_starts ops es h start first k e lies.0 at touches.1.0, place_from_ends ops es h end last k e lies.1 at touches.1.1)
 place_from_touches ops es h key (RemoveMark id other start end) first last k e lies at touches =
     (place_from_starts ops es h start first k e lies.0 at touches.1.0, place_from_ends ops es h end last k e lies.1 at touches.1.1)
+place_from_touches ops es h key (Revive id removal) first last k e lies at touches = absurd touches
 
 pub of_key_from_touches : (ops : List Op) (key : Key) (e : OpId) (o : Op) → Touches ops key e o → IsOfKey key o
 of_key_from_touches ops key e (Insert id parent character) touches = absurd touches
 of_key_from_touches ops key e (Remove id target) touches = absurd touches
 of_key_from_touches ops key e (AddMark id attribute start end) touches = touches.0
 of_key_from_touches ops key e (RemoveMark id other start end) touches = touches.0
+of_key_from_touches ops key e (Revive id removal) touches = absurd touches
 
 pub mark_from_key : (key : Key) (o : Op) → IsOfKey key o → is_mark o ≡ true
 mark_from_key key (Insert id parent character) of_key = absurd of_key
 mark_from_key key (Remove id target) of_key = absurd of_key
 mark_from_key key (AddMark id attribute start end) of_key = refl
 mark_from_key key (RemoveMark id other start end) of_key = refl
+mark_from_key key (Revive id removal) of_key = absurd of_key
 
 -- two operations that decide are one
 pub one_decides : (ops : List Op) → ((o p : Op) → Contains ops o → Contains ops p → id_of o ≡ id_of p → o ≡ p) → (key : Key) (e : OpId) (o p : Op) → Decides ops key e o → Decides ops key e p → o ≡ p
@@ -155,6 +159,7 @@ module _ (ops : List Op) (es : List Element) (operations : List Op) (marks : Lis
   key_from_added (Remove id target) a touches is = absurd touches
   key_from_added (AddMark id attribute start end) a touches is = ap key_of (sym (same_Some attribute a is)) ∙ touches.0
   key_from_added (RemoveMark id other start end) a touches is = absurd (none-some a is)
+  key_from_added (Revive id removal) a touches is = absurd touches
 
   -- no mark covers the place
   pub value_none : ((i : ℕ) (p : PlacedMark) → i < length marks → slice_get marks i ≡ Some p → CoversPlace p place → ⊥) → IsValue ops key e None
@@ -188,3 +193,4 @@ added_none (Insert id parent character) not = refl
 added_none (Remove id target) not = refl
 added_none (AddMark id attribute start end) not = absurd (not id attribute start end refl)
 added_none (RemoveMark id other start end) not = refl
+added_none (Revive id removal) not = refl

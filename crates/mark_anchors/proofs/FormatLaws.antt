@@ -11,7 +11,7 @@ use Rattle.change_ops.specs.declared.attribute.Attribute.TheVariants.{Strong, Em
 use Rattle.change_ops.specs.declared.operation.Anchor.{Anchor}
 use Rattle.change_ops.specs.declared.operation.Anchor.TheVariants.{TextStart, BeforeCharacter, AfterCharacter, TextEnd}
 use Rattle.change_ops.specs.declared.operation.Op.{Op}
-use Rattle.change_ops.specs.declared.operation.Op.TheVariants.{Insert, Remove, AddMark, RemoveMark}
+use Rattle.change_ops.specs.declared.operation.Op.TheVariants.{Insert, Remove, AddMark, RemoveMark, Revive}
 use Rattle.char_sequence.specs.Order.{SameSet}
 use Rattle.char_sequence.proofs.TreeLaws.{Grows, before_kept}
 use Rattle.char_sequence.proofs.Lists.{same_in_order, MembersOf}
@@ -46,6 +46,7 @@ touches_kept old new more key e (Insert id parent character) touches = absurd to
 touches_kept old new more key e (Remove id target) touches = absurd touches
 touches_kept old new more key e (AddMark id attribute start end) touches = (touches.0, covers_kept old new more start end e touches.1)
 touches_kept old new more key e (RemoveMark id other start end) touches = (touches.0, covers_kept old new more start end e touches.1)
+touches_kept old new more key e (Revive id removal) touches = absurd touches
 
 pub decides_of_set : (ops others : List Op) → SameSet ops others → (key : Key) (e : OpId) (o : Op) → Decides ops key e o → Decides others key e o
 decides_of_set ops others s key e o d = record {

@@ -5,7 +5,7 @@ use Rattle.std.proofs.lemmas.List.{length_push}
 use Rattle.std.proofs.lemmas.Option.{slice_get_within, none-some, same_Some}
 use Rattle.change_ops.specs.declared.attribute.Key.{Key}
 use Rattle.change_ops.specs.declared.operation.Op.{Op}
-use Rattle.change_ops.specs.declared.operation.Op.TheVariants.{Insert, Remove, AddMark, RemoveMark}
+use Rattle.change_ops.specs.declared.operation.Op.TheVariants.{Insert, Remove, AddMark, RemoveMark, Revive}
 use Rattle.char_sequence.specs.declared.sequence.Element.{Element}
 use Rattle.mark_anchors.specs.Places.{IsOfKey}
 use Rattle.mark_anchors.specs.MarkRange.{IsRangeOf}
@@ -70,12 +70,14 @@ one_key key other (Insert id parent character) is also = absurd is
 one_key key other (Remove id target) is also = absurd is
 one_key key other (AddMark id attribute start end) is also = sym is ∙ also
 one_key key other (RemoveMark id k start end) is also = sym is ∙ also
+one_key key other (Revive id removal) is also = absurd is
 
 pub key_from_range : (o : Op) (r : MarkRange) → IsRangeOf o r → IsOfKey r.key o
 key_from_range (Insert id parent character) r is = absurd is
 key_from_range (Remove id target) r is = absurd is
 key_from_range (AddMark id attribute start end) r is = is.0
 key_from_range (RemoveMark id key start end) r is = is.0
+key_from_range (Revive id removal) r is = absurd is
 
 pub marks_none : (es : List Element) (operations : List Op) → AreFirstMarks es operations 0 []
 marks_none es operations = record { sized = refl; placed = λ i p g. absurd (none-some p g) }

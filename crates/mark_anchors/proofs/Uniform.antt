@@ -11,7 +11,7 @@ use Rattle.change_ops.specs.declared.attribute.Attribute.TheVariants.{Strong, Em
 use Rattle.change_ops.specs.declared.operation.Anchor.{Anchor}
 use Rattle.change_ops.specs.declared.operation.Anchor.TheVariants.{TextStart, BeforeCharacter, AfterCharacter, TextEnd}
 use Rattle.change_ops.specs.declared.operation.Op.{Op}
-use Rattle.change_ops.specs.declared.operation.Op.TheVariants.{Insert, Remove, AddMark, RemoveMark}
+use Rattle.change_ops.specs.declared.operation.Op.TheVariants.{Insert, Remove, AddMark, RemoveMark, Revive}
 use Rattle.char_sequence.specs.declared.sequence.Element.{Element}
 use Rattle.char_sequence.specs.Order.{Shows}
 use Rattle.mark_anchors.specs.Format.{Touches, Decides, Bears, IsFormat}
@@ -93,18 +93,21 @@ names_start (Insert id parent character) r is x names = absurd is
 names_start (Remove id target) r is x names = absurd is
 names_start (AddMark id attribute start end) r is x names = inl (subst (λ a. AnchorNames a x) (sym is.1) names)
 names_start (RemoveMark id key start end) r is x names = inl (subst (λ a. AnchorNames a x) (sym is.1) names)
+names_start (Revive id removal) r is x names = absurd is
 
 pub names_end : (o : Op) (r : MarkRange) → IsRangeOf o r → (x : OpId) → AnchorNames r.end x → Names o x
 names_end (Insert id parent character) r is x names = absurd is
 names_end (Remove id target) r is x names = absurd is
 names_end (AddMark id attribute start end) r is x names = inr (subst (λ a. AnchorNames a x) (sym is.2) names)
 names_end (RemoveMark id key start end) r is x names = inr (subst (λ a. AnchorNames a x) (sym is.2) names)
+names_end (Revive id removal) r is x names = absurd is
 
 pub lies_from_range : (es : List Element) (o : Op) (r : MarkRange) (first last : ℕ) → IsRangeOf o r → IsBoundary es r.start first → IsBoundary es r.end last → Lies es o first last
 lies_from_range es (Insert id parent character) r first last is a b = absurd is
 lies_from_range es (Remove id target) r first last is a b = absurd is
 lies_from_range es (AddMark id attribute start end) r first last is a b = (subst (λ z. IsBoundary es z first) (sym is.1) a, subst (λ z. IsBoundary es z last) (sym is.2) b)
 lies_from_range es (RemoveMark id key start end) r first last is a b = (subst (λ z. IsBoundary es z first) (sym is.1) a, subst (λ z. IsBoundary es z last) (sym is.2) b)
+lies_from_range es (Revive id removal) r first last is a b = absurd is
 
 pub boundary_within : (es : List Element) (a : Anchor) (n : ℕ) → IsBoundary es a n → n ≤ length es
 boundary_within es TextStart n is = let at : n ≡ 0 = is in omega arith

@@ -5,7 +5,7 @@ use Rattle.change_ops.specs.Operations.{id_of}
 use Rattle.change_ops.specs.declared.id.OpId.{OpId}
 use Rattle.change_ops.specs.declared.operation.Anchor.{Anchor}
 use Rattle.change_ops.specs.declared.operation.Op.{Op}
-use Rattle.change_ops.specs.declared.operation.Op.TheVariants.{Insert, Remove, AddMark, RemoveMark}
+use Rattle.change_ops.specs.declared.operation.Op.TheVariants.{Insert, Remove, AddMark, RemoveMark, Revive}
 
 -- the anchor is the mark's first one
 abbrev pub Begins : Op → Anchor → Type 0
@@ -13,6 +13,7 @@ Begins (Insert id parent character) anchor = ⊥
 Begins (Remove id target) anchor = ⊥
 Begins (AddMark id attribute start end) anchor = start ≡ anchor
 Begins (RemoveMark id key start end) anchor = start ≡ anchor
+Begins (Revive id removal) anchor = ⊥
 
 -- the anchor is the mark's second one
 abbrev pub Ends : Op → Anchor → Type 0
@@ -20,6 +21,7 @@ Ends (Insert id parent character) anchor = ⊥
 Ends (Remove id target) anchor = ⊥
 Ends (AddMark id attribute start end) anchor = end ≡ anchor
 Ends (RemoveMark id key start end) anchor = end ≡ anchor
+Ends (Revive id removal) anchor = ⊥
 
 -- no id stands twice
 abbrev pub AreApart : List OpId → Type 0

@@ -6,7 +6,7 @@ use Rattle.change_ops.specs.declared.operation.Anchor.{Anchor}
 use Rattle.change_ops.specs.declared.operation.Anchor.TheVariants.{TextStart, BeforeCharacter, AfterCharacter, TextEnd}
 use Rattle.char_sequence.specs.Order.{Before}
 
--- the same character, or an earlier one; removed characters keep their places
+-- the same character, or an earlier one; hidden characters keep their places
 abbrev pub NotAfter : List Op → OpId → OpId → Type 0
 NotAfter ops x y = (x ≡ y) ⊎ Before ops (Some x) y
 

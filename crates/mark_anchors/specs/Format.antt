@@ -9,7 +9,7 @@ use Rattle.change_ops.specs.declared.attribute.Key.{Key}
 use Rattle.change_ops.specs.declared.attribute.Attribute.{Attribute}
 use Rattle.change_ops.specs.declared.attribute.Attribute.TheVariants.{Strong, Em, Code, Link, Color, Comment}
 use Rattle.change_ops.specs.declared.operation.Op.{Op}
-use Rattle.change_ops.specs.declared.operation.Op.TheVariants.{Insert, Remove, AddMark, RemoveMark}
+use Rattle.change_ops.specs.declared.operation.Op.TheVariants.{Insert, Remove, AddMark, RemoveMark, Revive}
 use Rattle.mark_anchors.specs.Anchors.{Covers}
 use Rattle.mark_anchors.specs.Formatting.{Format}
 
@@ -19,6 +19,7 @@ Touches ops key e (Insert id parent character) = ⊥
 Touches ops key e (Remove id target) = ⊥
 Touches ops key e (AddMark id attribute start end) = (key_of attribute ≡ key) × Covers ops start end e
 Touches ops key e (RemoveMark id k start end) = (k ≡ key) × Covers ops start end e
+Touches ops key e (Revive id removal) = ⊥
 
 -- it touches the character, and no other that does has a greater id
 pub record Decides (ops : List Op) (key : Key) (e : OpId) (o : Op) : Type 0 where
@@ -32,6 +33,7 @@ added (Insert id parent character) = None
 added (Remove id target) = None
 added (AddMark id attribute start end) = Some attribute
 added (RemoveMark id k start end) = None
+added (Revive id removal) = None
 
 -- the key holds at the character with this value: the operation that decides is an add
 abbrev pub Bears : List Op → OpId → Attribute → Type 0

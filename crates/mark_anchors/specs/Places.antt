@@ -5,7 +5,7 @@ use Rattle.change_ops.specs.declared.operation.Anchor.TheVariants.{TextStart, Be
 use Rattle.change_ops.specs.Operations.{key_of}
 use Rattle.change_ops.specs.declared.attribute.Key.{Key}
 use Rattle.change_ops.specs.declared.operation.Op.{Op}
-use Rattle.change_ops.specs.declared.operation.Op.TheVariants.{Insert, Remove, AddMark, RemoveMark}
+use Rattle.change_ops.specs.declared.operation.Op.TheVariants.{Insert, Remove, AddMark, RemoveMark, Revive}
 use Rattle.char_sequence.specs.declared.sequence.Element.{Element}
 use Rattle.char_sequence.specs.Order.{IsAt}
 
@@ -22,6 +22,7 @@ IsOfKey key (Insert id parent character) = ⊥
 IsOfKey key (Remove id target) = ⊥
 IsOfKey key (AddMark id attribute start end) = key_of attribute ≡ key
 IsOfKey key (RemoveMark id k start end) = k ≡ key
+IsOfKey key (Revive id removal) = ⊥
 
 -- its anchors have `first` and `last` characters before them
 abbrev pub Lies : List Element → Op → ℕ → ℕ → Type 0
@@ -29,3 +30,4 @@ Lies es (Insert id parent character) first last = ⊥
 Lies es (Remove id target) first last = ⊥
 Lies es (AddMark id attribute start end) first last = IsBoundary es start first × IsBoundary es end last
 Lies es (RemoveMark id k start end) first last = IsBoundary es start first × IsBoundary es end last
+Lies es (Revive id removal) first last = ⊥

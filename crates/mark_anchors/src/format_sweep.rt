@@ -8,7 +8,7 @@ use crate::resolved::{Decided, Near, ResolvedMarks};
 use std::alloc::AllocError;
 use std::marker::Model;
 
-/// A walk over the characters, removed ones too, that stands at a place. What was decided there is kept, and what marks
+/// A walk over the characters, hidden ones too, that stands at a place. What was decided there is kept, and what marks
 /// decide at the next place is looked for from there on.
 #[derive(Drop)]
 pub struct FormatSweep<'a> {

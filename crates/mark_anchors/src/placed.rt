@@ -39,7 +39,7 @@ fn place_of(places: &PlaceTable<'_>, id: OpId) -> usize
     places.place_of(id).unwrap()
 }
 
-/// The number of characters, removed ones too, before the anchor.
+/// The number of characters, hidden ones too, before the anchor.
 pub(crate) fn boundary(places: &PlaceTable<'_>, anchor: Anchor) -> usize
     requires { (ops : List Op) × Shows places.now ops × ((x : OpId) → AnchorNames anchor x → Present ops x) }
     ensures { IsBoundary places.now anchor result }

@@ -250,7 +250,7 @@ impl ResolvedMarks<'_> {
         })
     }
 
-    /// The format of the character at the place, which counts removed characters too.
+    /// The format of the character at the place, which counts hidden characters too.
     pub fn format_at_place(&self, place: usize) -> Result<Format, AllocError>
         requires { place < length self.now.elements }
         ensures { IfOk result (λ format. IsFormatAt self.now.elements self.now.marks place format) }

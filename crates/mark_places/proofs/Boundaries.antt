@@ -11,7 +11,7 @@ use Rattle.change_ops.specs.declared.operation.Anchor.TheVariants.{TextStart, Be
 use Rattle.char_sequence.specs.declared.sequence.Element.{Element}
 use Rattle.char_sequence.specs.Order.{IsAt}
 use Rattle.change_ops.specs.declared.operation.Op.{Op}
-use Rattle.change_ops.specs.declared.operation.Op.TheVariants.{Insert, Remove, AddMark, RemoveMark}
+use Rattle.change_ops.specs.declared.operation.Op.TheVariants.{Insert, Remove, AddMark, RemoveMark, Revive}
 use Rattle.mark_anchors.specs.Places.{IsBoundary, Lies}
 use Rattle.mark_anchors.specs.Anchored.{Begins, Ends}
 use Rattle.mark_places.specs.Places.{gives_way}
@@ -92,7 +92,7 @@ module _ (es : List Element) (k : ℕ) (was is : Element) (here : slice_get es k
       (λ (other : n ≡ k → ⊥). (at.0, slice_get_set_other es k n is other ∙ at.1, at.2))
       (cases_eq n k)
 
-  -- A removal moves no boundary: the element stays, with its id.
+  -- Hiding or showing a character moves no boundary: the element stays, with its id.
   pub boundary_hidden : (anchor : Anchor) (n : ℕ) → IsBoundary es anchor n → IsBoundary (set es k is) anchor n
   boundary_hidden TextStart n b = b
   boundary_hidden (BeforeCharacter x) n b = at_set x n b
@@ -108,8 +108,9 @@ lies_shifted front run back (AddMark id attribute start end) first last first' l
     (boundary_shifted front run back start first first' lies.0 (begins start refl), boundary_shifted front run back end last last' lies.1 (ends end refl))
 lies_shifted front run back (RemoveMark id key start end) first last first' last' lies begins ends =
     (boundary_shifted front run back start first first' lies.0 (begins start refl), boundary_shifted front run back end last last' lies.1 (ends end refl))
+lies_shifted front run back (Revive id removal) first last first' last' lies begins ends = absurd lies
 
--- A removal leaves them.
+-- Hiding or showing a character leaves them.
 pub lies_hidden : (es : List Element) (k : ℕ) (was is : Element) → slice_get es k ≡ Some was → is.id ≡ was.id → (o : Op) (first last : ℕ) → Lies es o first last → Lies (set es k is) o first last
 lies_hidden es k was is here same (Insert id parent character) first last lies = absurd lies
 lies_hidden es k was is here same (Remove id target) first last lies = absurd lies
@@ -117,3 +118,4 @@ lies_hidden es k was is here same (AddMark id attribute start end) first last li
     (boundary_hidden es k was is here same start first lies.0, boundary_hidden es k was is here same end last lies.1)
 lies_hidden es k was is here same (RemoveMark id key start end) first last lies =
     (boundary_hidden es k was is here same start first lies.0, boundary_hidden es k was is here same end last lies.1)
+lies_hidden es k was is here same (Revive id removal) first last lies = absurd lies

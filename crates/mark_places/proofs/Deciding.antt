@@ -9,9 +9,10 @@ use Rattle.change_ops.specs.declared.attribute.Key.{Key}
 use Rattle.change_ops.specs.declared.attribute.Attribute.{Attribute}
 use Rattle.change_ops.specs.declared.attribute.Attribute.TheVariants.{Strong, Em, Code, Link, Color, Comment}
 use Rattle.change_ops.specs.declared.operation.Op.{Op}
-use Rattle.change_ops.specs.declared.operation.Op.TheVariants.{Insert, Remove, AddMark, RemoveMark}
+use Rattle.change_ops.specs.declared.operation.Op.TheVariants.{Insert, Remove, AddMark, RemoveMark, Revive}
 use Rattle.char_sequence.specs.declared.sequence.Element.{Element}
 use Rattle.char_sequence.specs.Order.{IsAt, Shows, IsText}
+use Rattle.char_sequence.proofs.Hiding.{SameRemovals, same_removals_sym, hidden_same}
 use Rattle.char_sequence.proofs.Ids.{less_trans}
 use Rattle.char_sequence.proofs.TreeLaws.{Grows, before_kept, within_kept}
 use Rattle.mark_anchors.specs.Format.{Touches, Decides, Bears, IsFormat}
@@ -28,6 +29,7 @@ no_edit_marks (Insert id parent character) edit mark = true≢false (sym mark)
 no_edit_marks (Remove id target) edit mark = true≢false (sym mark)
 no_edit_marks (AddMark id attribute start end) edit mark = true≢false (sym edit)
 no_edit_marks (RemoveMark id key start end) edit mark = true≢false (sym edit)
+no_edit_marks (Revive id removal) edit mark = true≢false (sym mark)
 
 -- the edits among the operations, and some marks
 abbrev pub with_marks : List Op → List Op → List Op
@@ -50,13 +52,19 @@ module _ (es : List Element) (ops marks chosen : List Op) (h : Shows es ops) (ar
   more : Grows ops (with_marks ops chosen)
   more x p i = (i.0, still (Insert x p i.0) refl i.1)
 
+  same_removals : SameRemovals ops (with_marks ops chosen)
+  same_removals = record {
+    removes = λ r x. (still (Remove r x) refl, was (Remove r x));
+    back = λ r. (λ b. (b.0, still (Revive b.0 r) refl b.1), λ b. (b.0, was (Revive b.0 r) b.1));
+  }
+
   others_text : IsText (with_marks ops chosen) es
   others_text = record {
     ordered = λ i j x y lt g k. before_kept ops (with_marks ops chosen) more (Some x.id) y.id (h.text.ordered i j x y lt g k);
     listed = λ x p c i. h.text.listed x p c (was (Insert x p c) i);
     inserted = λ i e g. let r = h.text.inserted i e g in (r.0, still (Insert e.id r.0 e.character) refl r.1);
-    shown = λ i e g shows r. h.text.shown i e g shows (r.0, was (Remove r.0 e.id) r.1);
-    hidden = λ i e g hides. let r = h.text.hidden i e g hides in (r.0, still (Remove r.0 e.id) refl r.1);
+    shown = λ i e g shows r. h.text.shown i e g shows (hidden_same (with_marks ops chosen) ops (same_removals_sym ops (with_marks ops chosen) same_removals) e.id r);
+    hidden = λ i e g hides. hidden_same ops (with_marks ops chosen) same_removals e.id (h.text.hidden i e g hides);
   }
 
   pub others_shown : Shows es (with_marks ops chosen)
@@ -68,6 +76,7 @@ module _ (es : List Element) (ops marks chosen : List Op) (h : Shows es ops) (ar
     };
     distinct = λ o p a b same. h.distinct o p (was o a) (was p b) same;
     named = λ o x c names. let there = h.named o x (was o c) names in (there.0, more x there.0 there.1);
+    removals = λ o r c names. let there = h.removals o r (was o c) names in (there.0, still (Remove r there.0) refl there.1);
     text = others_text;
   }
 

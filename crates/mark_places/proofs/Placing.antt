@@ -7,7 +7,7 @@ use Rattle.std.proofs.lemmas.List.{length_push}
 use Rattle.std.proofs.lemmas.List.Sorted.{Contains-permutation, IsPermutation-sym, length_permutation}
 use Rattle.std.proofs.lemmas.Option.{same_Some, slice_get_within}
 use Rattle.change_ops.specs.declared.operation.Op.{Op}
-use Rattle.change_ops.specs.declared.operation.Op.TheVariants.{Insert, Remove, AddMark, RemoveMark}
+use Rattle.change_ops.specs.declared.operation.Op.TheVariants.{Insert, Remove, AddMark, RemoveMark, Revive}
 use Rattle.char_sequence.specs.declared.sequence.Element.{Element}
 use Rattle.mark_anchors.specs.Places.{IsOfKey, Lies}
 use Rattle.mark_anchors.proofs.Lists.{contains_at, contains_from, item_at, pushed_here, pushed_still}
@@ -92,6 +92,7 @@ lies_within es (Insert id parent character) first last lies = absurd lies
 lies_within es (Remove id target) first last lies = absurd lies
 lies_within es (AddMark id attribute start end) first last lies = (boundary_within es start first lies.0, boundary_within es end last lies.1)
 lies_within es (RemoveMark id key start end) first last lies = (boundary_within es start first lies.0, boundary_within es end last lies.1)
+lies_within es (Revive id removal) first last lies = absurd lies
 
 pub place_within : (es : List Element) (operations : List Op) (places : List MarkPlace) → AreMarkPlaces es operations places → (p : MarkPlace) → Contains places p → (p.mark.start ≤ length es) × (p.mark.end ≤ length es)
 place_within es operations places are p held =

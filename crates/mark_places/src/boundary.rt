@@ -18,7 +18,7 @@ pub fn place_of(sequence: &Sequence, id: OpId) -> usize
     sequence.place_of(id).unwrap()
 }
 
-/// How many characters, removed ones too, stand before the anchor.
+/// How many characters, hidden ones too, stand before the anchor.
 pub fn characters_before(sequence: &Sequence, anchor: Anchor) -> usize
     requires { (ops : List Op) × Shows sequence.now.elements ops × ((x : OpId) → AnchorNames anchor x → Present ops x) }
     ensures boundary { IsBoundary sequence.now.elements anchor result }

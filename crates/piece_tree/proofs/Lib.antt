@@ -4,3 +4,4 @@ pub mod Cutting
 pub mod Windows
 pub mod Shorts
 pub mod Reaching
+pub mod Walking

@@ -2,6 +2,7 @@
 //! that it touches. What a piece is, and how large, its type says.
 #![tactic(auto)]
 
+pub mod iter;
 mod node;
 pub mod piece;
 mod spot;

@@ -5,6 +5,7 @@ ghost use Rattle.piece_tree.specs.Budgets.{list_bytes, root_bytes, window_bytes}
 ghost use Rattle.piece_tree.specs.Nodes.{AreFilled, AreShort, pieces_of};
 ghost use Rattle.piece_tree.specs.Spots.{IsReached};
 
+use crate::iter::PiecesFrom;
 use crate::node::{HANDLE_BYTES, NODE_BYTES, Node};
 use crate::piece::{Measure, Piece};
 use crate::spot::{Spot, spot_in};
@@ -197,6 +198,26 @@ impl<T: Piece> PieceTree<T> {
         let nodes = self.root.nodes();
         let spot = node_reaching(nodes, index + 1);
         &pieces_at(nodes, spot.node)[index - spot.start]
+    }
+
+    /// The pieces from one on, in order. There is none from beyond the last one.
+    pub fn pieces_from(&self, index: usize) -> PiecesFrom<'_, T>
+        ensures { result ≡ drop index self.now }
+    {
+        // How many pieces there are, which the proof needs.
+        self.root.keeps();
+        let nodes = self.root.nodes();
+        if index >= self.root.count() {
+            return PiecesFrom {
+                rest: &[],
+                nodes: &[],
+            };
+        }
+        let spot = node_reaching(nodes, index + 1);
+        PiecesFrom {
+            rest: &pieces_at(nodes, spot.node)[index - spot.start..],
+            nodes: &nodes[spot.node + 1..],
+        }
     }
 
     /// The tree with `new` in place of the pieces from `from` up to `to`. Nodes that the window doesn't touch are

@@ -1,7 +1,7 @@
 -- What is read of a text, where it doesn't wait for further lines, is read of it with more behind it too.
-use Rattle.std.proofs.Common.{◌≡◌, ℕ, ◌-◌, ◌⊎◌, List, [], ◌∷◌, ◌++◌, Result, Ok, Err, inl, inr, sym, ap, ◌∙◌, append_assoc}
+use Rattle.std.proofs.Common.{◌≡◌, ℕ, ◌⊎◌, List, [], ◌∷◌, ◌++◌, Result, Ok, Err, inl, inr, sym, ap, ◌∙◌, append_assoc}
 use Rattle.change_ops.specs.Changes.{Change}
-use Rattle.change_ops.specs.Lines.{count_of}
+use Rattle.change_ops.specs.Rooms.{whole_room, room_behind}
 use Rattle.change_ops.specs.Spelling.{change_text}
 use Rattle.change_ops.specs.Refusals.{Line, Accepted, AcceptedLines, Reached, IsRefused}
 use Rattle.change_ops.specs.declared.line.Form.{Form}
@@ -14,7 +14,7 @@ use Rattle.session_lines.specs.Gathering.{IsSettled}
 line_on : (text line rest more : List ℕ) → Line text line rest → Line (text ++ more) line (rest ++ more)
 line_on text line rest more l = record { whole = ap (λ t. t ++ more) l.whole ∙ append_assoc line (10 ∷ rest) more; one = l.one }
 
-accepted_on : (form : Form) (peer room : ℕ) (found : Spelled) (text rest more : List ℕ) → Accepted form peer room found text rest
+accepted_on : (form : Form) (peer : ℕ) (room : _) (found : Spelled) (text rest more : List ℕ) → Accepted form peer room found text rest
     → Accepted form peer room found (text ++ more) (rest ++ more)
 accepted_on form peer room found text rest more a = record {
   line = a.line;
@@ -25,13 +25,13 @@ accepted_on form peer room found text rest more a = record {
   own = a.own;
 }
 
-lines_on : (form : Form) (peer room : ℕ) (lines : List Spelled) (text rest more : List ℕ) → AcceptedLines form peer room lines text rest
+lines_on : (form : Form) (peer : ℕ) (room : _) (lines : List Spelled) (text rest more : List ℕ) → AcceptedLines form peer room lines text rest
     → AcceptedLines form peer room lines (text ++ more) (rest ++ more)
 lines_on form peer room [] text rest more same = ap (λ t. t ++ more) same
 lines_on form peer room (line ∷ lines) text rest more a =
-    (a.0 ++ more, accepted_on form peer room line text a.0 more a.1, lines_on form peer (room - count_of line) lines a.0 rest more a.2)
+    (a.0 ++ more, accepted_on form peer room line text a.0 more a.1, lines_on form peer (room_behind room line) lines a.0 rest more a.2)
 
-reached_on : (text : List ℕ) (number : ℕ) (form : Form) (node room : ℕ) (remains more : List ℕ) → Reached text number form node room remains
+reached_on : (text : List ℕ) (number : ℕ) (form : Form) (node : ℕ) (room : _) (remains more : List ℕ) → Reached text number form node room remains
     → Reached (text ++ more) number form node room (remains ++ more)
 reached_on text number form node room remains more r = record {
   header = r.header;
@@ -43,17 +43,17 @@ reached_on text number form node room remains more r = record {
   before = r.before;
   numbered = r.numbered;
   wanted = r.wanted;
-  accepted = lines_on form node 256 r.before r.rest remains more r.accepted;
+  accepted = lines_on form node whole_room r.before r.rest remains more r.accepted;
   left = r.left;
 }
 
 -- a fault of the first line, or of one that is reached, whatever makes a line faulty
-fault_on : (text more : List ℕ) (number : ℕ) (Header : List ℕ → Type 0) (Faulty : Form → ℕ → ℕ → List ℕ → Type 0)
+fault_on : (text more : List ℕ) (number : ℕ) (Header : List ℕ → Type 0) (Faulty : Form → ℕ → _ → List ℕ → Type 0)
     → (((number ≡ 1) × ((line : List ℕ) × (rest : List ℕ) × Line text line rest × Header line))
-    ⊎ ((form : Form) × (node : ℕ) × (room : ℕ) × (remains : List ℕ) × (line : List ℕ) × (rest : List ℕ)
+    ⊎ ((form : Form) × (node : ℕ) × (room : _) × (remains : List ℕ) × (line : List ℕ) × (rest : List ℕ)
     × Reached text number form node room remains × Line remains line rest × Faulty form node room line))
     → (((number ≡ 1) × ((line : List ℕ) × (rest : List ℕ) × Line (text ++ more) line rest × Header line))
-    ⊎ ((form : Form) × (node : ℕ) × (room : ℕ) × (remains : List ℕ) × (line : List ℕ) × (rest : List ℕ)
+    ⊎ ((form : Form) × (node : ℕ) × (room : _) × (remains : List ℕ) × (line : List ℕ) × (rest : List ℕ)
     × Reached (text ++ more) number form node room remains × Line remains line rest × Faulty form node room line))
 fault_on text more number Header Faulty (inl f) = inl (f.0, (f.1.0, f.1.1 ++ more, line_on text f.1.0 f.1.1 more f.1.2, f.1.3))
 fault_on text more number Header Faulty (inr f) =

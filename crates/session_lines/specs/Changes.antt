@@ -7,10 +7,14 @@ use Rattle.change_ops.specs.Reading.{header_at}
 use Rattle.change_ops.specs.Changes.{Header, limited_header}
 use Rattle.session_lines.specs.Lines.{joined}
 
--- a line whose first word, what stands before the first space, is `change` or `change2`
+-- the first word of a change's first line, of any form
+abbrev pub begins_change : List ℕ → Bool
+begins_change word =
+    (bytes_eq word (codes "change") || bytes_eq word (codes "change2")) || bytes_eq word (codes "change3")
+
+-- a line whose first word, what stands before the first space, begins a change
 abbrev pub is_header : List ℕ → Bool
-is_header line = let word =
-    before_first (λ b. b == 32) line in bytes_eq word (codes "change") || bytes_eq word (codes "change2")
+is_header line = begins_change (before_first (λ b. b == 32) line)
 
 -- the form, the node and the count of a right first line of a change
 abbrev pub right_header : List ℕ → Option Header

@@ -2,7 +2,7 @@
 ghost use Rattle.std.specs.Prelude.{◌≡◌, ◌++◌, ◌∷◌, [], OnOk};
 ghost use Rattle.std.specs.String.{string_bytes};
 ghost use Rattle.std.specs.Option.{option_map};
-ghost use Rattle.session_lines.specs.Changes.{is_header, right_header, followers, legible};
+ghost use Rattle.session_lines.specs.Changes.{begins_change, is_header, right_header, followers, legible};
 
 use crate::words::{first_word, word_of};
 use change_ops::numeral::decimal_number;
@@ -15,12 +15,21 @@ const CHANGE: &[u8] = b"change";
 /// That of a change of the second form.
 const CHANGE2: &[u8] = b"change2";
 
+/// That of a change of the third form.
+const CHANGE3: &[u8] = b"change3";
+
+/// Whether a word begins a change's first line.
+fn begins_change(word: &[u8]) -> bool
+    ensures { result ≡ begins_change word.now }
+{
+    word == CHANGE || word == CHANGE2 || word == CHANGE3
+}
+
 /// Whether a line's first word is that of a change's first line.
 pub fn is_header(line: &[u8]) -> bool
     ensures { result ≡ is_header line.now }
 {
-    let word = first_word(line);
-    word == CHANGE || word == CHANGE2
+    begins_change(first_word(line))
 }
 
 /// The count of lines in a change's first line, where it is a right one.
@@ -30,7 +39,7 @@ fn count_of(line: &[u8]) -> Option<usize>
 {
     let (name, fields) = word_of(line)?;
     let (node, count) = word_of(fields)?;
-    if name != CHANGE && name != CHANGE2 {
+    if !begins_change(name) {
         return None;
     }
     let node = decimal_number(node)?;

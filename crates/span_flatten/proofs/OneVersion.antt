@@ -2,9 +2,10 @@
 use Rattle.std.proofs.Common.{◌≡◌, ℕ, List, Some, get_or, sym, ap, subst, ◌∙◌}
 use Rattle.std.proofs.lemmas.Option.{slice_get_within, get_or_from_slice_get}
 use Rattle.change_ops.specs.declared.operation.Op.{Op}
-use Rattle.change_ops.specs.declared.operation.Op.TheVariants.{Insert, Remove}
+use Rattle.change_ops.specs.declared.operation.Op.TheVariants.{Insert}
 use Rattle.char_sequence.specs.declared.sequence.Element.{Element}
 use Rattle.char_sequence.specs.Order.{Before, Shows, SameSet}
+use Rattle.char_sequence.proofs.Hiding.{same_removals_of_set, hidden_same}
 use Rattle.char_sequence.proofs.TreeLaws.{before_asym, before_kept}
 use Rattle.char_sequence.proofs.Lists.{InOrder, MembersOf, same_in_order}
 use Rattle.mark_anchors.specs.Format.{IsFormat}
@@ -19,9 +20,9 @@ visible_of_set ops others s shown v =
     let turned : SameSet others ops = record { forth = s.back; back = s.forth } in
     record {
       ordered = λ i j d less within. before_kept others ops (λ x p n. (n.0, s.back (Insert x p n.0) n.1)) (Some (get_or shown i d).id) (get_or shown j d).id (v.ordered i j d less within);
-      listed = λ x p c inserted kept. v.listed x p c (s.forth (Insert x p c) inserted) (λ r. kept (r.0, s.back (Remove r.0 x) r.1));
+      listed = λ x p c inserted kept. v.listed x p c (s.forth (Insert x p c) inserted) (λ r. kept (hidden_same others ops (same_removals_of_set others ops turned) x r));
       inserted = λ z c. let r = v.inserted z c in (r.0, s.back (Insert z.id r.0 z.character) r.1);
-      kept = λ z c r. v.kept z c (r.0, s.forth (Remove r.0 z.id) r.1);
+      kept = λ z c r. v.kept z c (hidden_same ops others (same_removals_of_set ops others s) z.id r);
       formatted = λ z c. format_of_set others ops turned z.id z.format (v.formatted z c);
     }
 

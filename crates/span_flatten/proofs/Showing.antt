@@ -8,7 +8,7 @@ use Rattle.std.proofs.lemmas.List.Elements.{All-contains}
 use Rattle.std.proofs.lemmas.List.Kept.{AllPairs-filter}
 use Rattle.change_ops.specs.declared.operation.Op.{Op}
 use Rattle.char_sequence.specs.declared.sequence.Element.{Element}
-use Rattle.char_sequence.specs.Tree.{Removed}
+use Rattle.char_sequence.specs.Tree.{IsHidden}
 use Rattle.char_sequence.specs.Order.{Before, IsText}
 use Rattle.mark_anchors.specs.Format.{IsFormat}
 use Rattle.span_flatten.specs.Spans.{Shown, AreVisible}
@@ -85,7 +85,7 @@ shown_visible ops es shown text drawn formats = record {
       let visible : e.visible ≡ true =
       ⊎_elim
       (λ (yes : e.visible ≡ true). yes)
-      (λ (no : e.visible ≡ false). absurd (kept (subst (λ z. Removed ops z) r.1.2 (text.hidden r.0 e r.1.1 no))))
+      (λ (no : e.visible ≡ false). absurd (kept (subst (λ z. IsHidden ops z) r.1.2 (text.hidden r.0 e r.1.1 no))))
       (cases_Bool e.visible) in
       let k = filter_keeps is_visible es r.0 e r.1.1 visible in
       let s = map_from element_of shown k.0 e (ap (λ l. slice_get l k.0) drawn ∙ k.1) in

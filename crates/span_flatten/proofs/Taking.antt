@@ -27,7 +27,7 @@ use Rattle.span_flatten.specs.Window.{IsFlattened}
 use Rattle.span_flatten.proofs.Laying.{spans_back, layout_back, rows_ordered, cut_starts, cut_ends, cut_counts, counts_few}
 use Rattle.span_flatten.proofs.Showing.{contains_at, filter_from, shown_visible}
 
--- characters side by side, removed ones too, that have one format: those at the places from `from` up to `to`, which is not one of them
+-- characters side by side, hidden ones too, that have one format: those at the places from `from` up to `to`, which is not one of them
 pub record FormattedRange : Type 0 where
   pub from : ℕ
   pub to : ℕ

@@ -5,7 +5,7 @@ use Rattle.std.specs.Prelude.{AllPairs, Contains, encode_utf8_all}
 use Rattle.change_ops.specs.declared.id.OpId.{OpId}
 use Rattle.change_ops.specs.declared.operation.Op.{Op}
 use Rattle.change_ops.specs.declared.operation.Op.TheVariants.{Insert}
-use Rattle.char_sequence.specs.Tree.{Removed}
+use Rattle.char_sequence.specs.Tree.{IsHidden}
 use Rattle.char_sequence.specs.Order.{Before}
 use Rattle.mark_anchors.specs.Format.{IsFormat}
 use Rattle.mark_anchors.specs.Formatting.{Format}
@@ -16,13 +16,13 @@ pub record Shown : Type 0 where
   pub character : ℕ
   pub format : Format
 
--- the characters that are inserted and not removed, in order, each with its format
+-- the characters that are inserted and not hidden, in order, each with its format
 pub record AreVisible (ops : List Op) (shown : List Shown) : Type 0 where
   pub ordered : AllPairs (λ a b. Before ops (Some a.id) b.id) shown
-  pub listed : (x : OpId) (p : Option OpId) (c : ℕ) → Contains ops (Insert x p c) → (Removed ops x → ⊥)
+  pub listed : (x : OpId) (p : Option OpId) (c : ℕ) → Contains ops (Insert x p c) → (IsHidden ops x → ⊥)
       → (s : Shown) × Contains shown s × (s.id ≡ x) × (s.character ≡ c)
   pub inserted : (s : Shown) → Contains shown s → (p : Option OpId) × Contains ops (Insert s.id p s.character)
-  pub kept : (s : Shown) → Contains shown s → Removed ops s.id → ⊥
+  pub kept : (s : Shown) → Contains shown s → IsHidden ops s.id → ⊥
   pub formatted : (s : Shown) → Contains shown s → IsFormat ops s.id s.format
 
 -- a piece of text, as UTF-8, with one format

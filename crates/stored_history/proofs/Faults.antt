@@ -1,5 +1,5 @@
 -- A change that is refused is not accepted.
-use Rattle.std.proofs.Common.{◌≡◌, ℕ, ◌<◌, List, ◌++◌, length, take, Result, Ok, Err, IsErrAnd, MatchResult, refl, sym, subst, arith}
+use Rattle.std.proofs.Common.{◌≡◌, ℕ, ◌<◌, List, ◌++◌, length, take, Result, Ok, Err, IsErrAnd, MatchResult, refl, sym, subst, arith, inl, inr}
 use Rattle.std.proofs.lemmas.Option.{slice_get_within}
 use Rattle.change_ops.specs.Changes.{Change, operations}
 use Rattle.change_ops.specs.declared.operation.Op.{Op}
@@ -18,7 +18,10 @@ use Rattle.stored_history.specs.Texts.{IsOnlyTextOf, IsFaultOf, IsNoText, text_e
 module _ (size : Size) where
   may_not : (ops : List Op) (op : Op) (refusal : Refusal) → MayNotFollow size ops op refusal → MayFollow size ops op → ⊥
   may_not ops op StaleCounter not may = may.accepted.fresh not
-  may_not ops op UnknownRef not may = not.1.2 (may.accepted.known not.1.0 not.1.1)
+  may_not ops op UnknownRef not may = elim not.1 [
+    | inl x ↦ x.2 (may.accepted.known x.0 x.1)
+    | inr r ↦ r.2 (may.accepted.removal r.0 r.1)
+  ]
   may_not ops op DocumentFull not may = may.accepted.room not.2
   may_not ops op MarksFull not may = may.room not.3
 

@@ -88,7 +88,7 @@ format_at shown characters same i s g =
 
 -- ---- a window in place of a range
 module _ {size : Size} (ops added marks : List Op) (old new : List Element) (inner : List PlaceRange) (shows : Shows old ops) (all : AcceptsAll size ops added) (later : Shows new (ops ++ added))
-    (held : AreMarks (ops ++ added) marks) (touched : (o : Op) → Contains added o → TouchesOneOf new inner o) (now : List Span) (maximal : AreMaximal now) (spans : AreSpans ops now) where
+    (held : AreMarks (ops ++ added) marks) (touched : (o : Op) → Contains added o → TouchesOneOf (ops ++ added) new inner o) (now : List Span) (maximal : AreMaximal now) (spans : AreSpans ops now) where
   -- an element that the change leaves alone has one format before it and after it
   one_shown : (i : ℕ) (e : Element) → slice_get new i ≡ Some e → LiesOutside inner i → (s t : Shown) → s.id ≡ e.id → t.id ≡ e.id → IsFormat ops s.id s.format → IsFormat (ops ++ added) t.id t.format → t.format ≡ s.format
   one_shown i e g out s t of_s of_t was is =

@@ -10,7 +10,7 @@ use Rattle.change_ops.specs.declared.attribute.Attribute.TheVariants.{Strong, Em
 use Rattle.change_ops.specs.declared.operation.Anchor.{Anchor}
 use Rattle.change_ops.specs.declared.operation.Anchor.TheVariants.{TextStart, BeforeCharacter, AfterCharacter, TextEnd}
 use Rattle.change_ops.specs.declared.operation.Op.{Op}
-use Rattle.change_ops.specs.declared.operation.Op.TheVariants.{Insert, Remove, AddMark, RemoveMark}
+use Rattle.change_ops.specs.declared.operation.Op.TheVariants.{Insert, Remove, AddMark, RemoveMark, Revive}
 use Rattle.char_sequence.specs.declared.sequence.Element.{Element}
 use Rattle.char_sequence.specs.Order.{IsAt, Shows}
 use Rattle.char_sequence.specs.Tree.{Present}
@@ -31,6 +31,7 @@ some_boundary ops es shows TextEnd named = (length es, refl)
 lies_somewhere : (ops : List Op) (es : List Element) → Shows es ops → (o : Op) → Contains ops o → is_mark o ≡ true → (first : ℕ) × ((last : ℕ) × Lies es o first last)
 lies_somewhere ops es shows (Insert id parent character) held mark = absurd (false≢true mark)
 lies_somewhere ops es shows (Remove id target) held mark = absurd (false≢true mark)
+lies_somewhere ops es shows (Revive id removal) held mark = absurd (false≢true mark)
 lies_somewhere ops es shows (AddMark id attribute start end) held mark =
     let first = some_boundary ops es shows start (λ x names. shows.named (AddMark id attribute start end) x held (inl names)) in
     let last = some_boundary ops es shows end (λ x names. shows.named (AddMark id attribute start end) x held (inr names)) in

@@ -214,7 +214,7 @@ module _ {size : Size} (ops added marks : List Op) (old new : List Element) (all
 -- ---- a version
 module _ {size : Size} (ops added : List Op) (old new : List Element) (olds ranges : List PlaceRange) (windows : List Replacement) (marks : List Op)
     (shows : Shows old ops) (all : AcceptsAll size ops added) (later : Shows new (ops ++ added)) (held : AreMarks (ops ++ added) marks)
-    (apart : AreApart ranges 0 (length new)) (touched : (o : Op) → Contains added o → TouchesOneOf new ranges o)
+    (apart : AreApart ranges 0 (length new)) (touched : (o : Op) → Contains added o → TouchesOneOf (ops ++ added) new ranges o)
     (changed : AreChangedWithin old new olds ranges 0 0) (are : AreReplacements old new marks olds ranges windows)
     (now : List Span) (maximal : AreMaximal now) (spans : AreSpans ops now) where
   -- the windows' places follow one another

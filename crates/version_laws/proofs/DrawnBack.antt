@@ -6,7 +6,7 @@ use Rattle.std.proofs.lemmas.Option.{same_Some, none-some}
 use Rattle.std.proofs.lemmas.List.Kept.{AllPairs-filter}
 use Rattle.change_ops.specs.declared.operation.Op.{Op}
 use Rattle.char_sequence.specs.declared.sequence.Element.{Element}
-use Rattle.char_sequence.specs.Tree.{Removed}
+use Rattle.char_sequence.specs.Tree.{IsHidden}
 use Rattle.char_sequence.specs.Order.{Before, Shows}
 use Rattle.char_sequence.proofs.Lists.{InOrder, MembersOf, same_in_order}
 use Rattle.char_sequence.proofs.TreeLaws.{before_asym}
@@ -69,7 +69,7 @@ visible_drawn ops es shown shows v =
         let visible : r.1.0.visible ≡ true =
         ⊎_elim
         (λ (yes : r.1.0.visible ≡ true). yes)
-        (λ (no : r.1.0.visible ≡ false). absurd (v.kept one.0 held (subst (λ z. Removed ops z) r.1.2 (shows.text.hidden r.0 r.1.0 r.1.1 no))))
+        (λ (no : r.1.0.visible ≡ false). absurd (v.kept one.0 held (subst (λ z. IsHidden ops z) r.1.2 (shows.text.hidden r.0 r.1.0 r.1.1 no))))
         (cases_Bool r.1.0.visible) in
         let same : r.1.0 ≡ x = same_elements r.1.0 (element_of one.0) r.1.2 r.1.3 visible ∙ one.2 in
         filter_keeps es r.0 x (r.1.1 ∙ ap Some same) (ap (λ z. z.visible) (sym same) ∙ visible)

@@ -13,7 +13,7 @@ use Rattle.change_ops.specs.declared.attribute.Attribute.TheVariants.{Strong, Em
 use Rattle.change_ops.specs.declared.operation.Anchor.{Anchor}
 use Rattle.change_ops.specs.declared.operation.Anchor.TheVariants.{TextStart, BeforeCharacter, AfterCharacter, TextEnd}
 use Rattle.change_ops.specs.declared.operation.Op.{Op}
-use Rattle.change_ops.specs.declared.operation.Op.TheVariants.{Insert, Remove, AddMark, RemoveMark}
+use Rattle.change_ops.specs.declared.operation.Op.TheVariants.{Insert, Remove, AddMark, RemoveMark, Revive}
 use Rattle.char_sequence.specs.declared.sequence.Element.{Element}
 use Rattle.char_sequence.specs.Tree.{Present, IsTree}
 use Rattle.char_sequence.specs.Order.{IsAt, Shows}
@@ -48,6 +48,7 @@ end_back old new t h TextEnd e named at is = tt
 pub touches_back : (old new : List Op) → IsTree old → Extends old new → (key : Key) (e : OpId) (o : Op) → ((x : OpId) → Names o x → Present old x) → Present old e → Touches new key e o → Touches old key e o
 touches_back old new t h key e (Insert id parent character) named at touches = absurd touches
 touches_back old new t h key e (Remove id target) named at touches = absurd touches
+touches_back old new t h key e (Revive id removal) named at touches = absurd touches
 touches_back old new t h key e (AddMark id attribute start end) named at touches =
     (touches.0, (start_back old new t h start e (λ x n. named x (inl n)) at touches.1.0, end_back old new t h end e (λ x n. named x (inr n)) at touches.1.1))
 touches_back old new t h key e (RemoveMark id other start end) named at touches =
@@ -60,6 +61,7 @@ touches_same old new t h key e o named at = (touches_kept old new h.more key e o
 pub edit_touches : (ops : List Op) (key : Key) (e : OpId) (o : Op) → is_edit o ≡ true → Touches ops key e o → ⊥
 edit_touches ops key e (Insert id parent character) edit touches = touches
 edit_touches ops key e (Remove id target) edit touches = touches
+edit_touches ops key e (Revive id removal) edit touches = touches
 edit_touches ops key e (AddMark id attribute start end) edit touches = true≢false (sym edit)
 edit_touches ops key e (RemoveMark id other start end) edit touches = true≢false (sym edit)
 
@@ -139,7 +141,7 @@ module _ {size : Size} (ops : List Op) (es : List Element) (op : Op) (shows : Sh
   pub format_untouched : ((key : Key) → Touches ops key e op → ⊥) → (f : Format) → IsFormat ops e f ↔ IsFormat (ops ++ op ∷ []) e f
   format_untouched not = format_same ops (ops ++ op ∷ []) shows.tree shows.named (extends_accepted ops op a) pushed e at (λ key. none_new key (not key))
 
-  -- An insert or a removal leaves the format.
+  -- An insert, a removal or a revival leaves the format.
   pub format_edit : is_edit op ≡ true → (f : Format) → IsFormat ops e f ↔ IsFormat (ops ++ op ∷ []) e f
   format_edit edit = format_untouched (λ key. edit_touches ops key e op edit)
 

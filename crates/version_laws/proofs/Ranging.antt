@@ -3,10 +3,11 @@ use Rattle.std.proofs.Common.{◌≡◌, ◌↔◌, ℕ, zero, suc, ◌+◌, ◌
 use Rattle.std.specs.List.{slice_get, slice_range, Contains}
 use Rattle.std.proofs.Math.Seq.{drop-append_seam, take-append_seam}
 use Rattle.std.proofs.lemmas.Option.{none-some}
+use Rattle.std.proofs.lemmas.List.Elements.{Contains-append_left}
 use Rattle.std.proofs.lemmas.List.Folds.{drop_split}
 use Rattle.change_ops.specs.declared.id.OpId.{OpId}
 use Rattle.change_ops.specs.declared.operation.Op.{Op}
-use Rattle.change_ops.specs.declared.operation.Op.TheVariants.{Insert, Remove, AddMark, RemoveMark}
+use Rattle.change_ops.specs.declared.operation.Op.TheVariants.{Insert, Remove, AddMark, RemoveMark, Revive}
 use Rattle.change_ops.specs.declared.size.Size.{Size}
 use Rattle.char_sequence.specs.declared.sequence.Element.{Element}
 use Rattle.char_sequence.specs.Acceptance.{AcceptsAll}
@@ -145,7 +146,7 @@ module _ (R : OpId → OpId → Type 0) (asym : (a b : OpId) → R a b → R b a
 
 -- ---- the elements
 module _ (ops added : List Op) (old new : List Element) (ranges : List PlaceRange) (shows : Shows old ops) (shown : Shows new (ops ++ added))
-    (touched : (o : Op) → Contains added o → TouchesOneOf new ranges o) where
+    (touched : (o : Op) → Contains added o → TouchesOneOf (ops ++ added) new ranges o) where
   -- an element outside the ranges was there
   pub there_outside : (i : ℕ) (e : Element) → slice_get new i ≡ Some e → LiesOutside ranges i → Has old e
   there_outside i e g out =
@@ -153,6 +154,7 @@ module _ (ops added : List Op) (old new : List Element) (ranges : List PlaceRang
       was_there ops added old new shows shown i e g (record {
         fresh = λ p c held. let t = touched (Insert e.id p c) held in none t.0 t.1 t.2;
         spared = λ r held. let t = touched (Remove r e.id) held in none t.0 t.1 t.2;
+        left = λ r held b. let t = touched (Revive b.0 r) b.1 in none t.0 t.1 (t.2 e.id (Contains-append_left ops added (Remove r e.id) held));
       })
 
   -- Before each range, and behind the last one, the elements are those that were there.
@@ -163,14 +165,15 @@ module _ (ops added : List Op) (old new : List Element) (ranges : List PlaceRang
 
 -- ---- formats
 -- what touches places between two alone is within that window
-pub within_window : (es : List Element) (low high : ℕ) (o : Op) → TouchesWithin es low high o → IsWithinWindow es low high o
-within_window es low high (Insert id parent character) t = inl refl
-within_window es low high (Remove id target) t = inl refl
-within_window es low high (AddMark id attribute start end) t = inr t
-within_window es low high (RemoveMark id key start end) t = inr t
+pub within_window : (ops : List Op) (es : List Element) (low high : ℕ) (o : Op) → TouchesWithin ops es low high o → IsWithinWindow es low high o
+within_window ops es low high (Insert id parent character) t = inl refl
+within_window ops es low high (Remove id target) t = inl refl
+within_window ops es low high (AddMark id attribute start end) t = inr t
+within_window ops es low high (RemoveMark id key start end) t = inr t
+within_window ops es low high (Revive id removal) t = inl refl
 
 -- An element outside the ranges has the format that it had.
-pub format_between : {size : Size} (ops added : List Op) (old new : List Element) (ranges : List PlaceRange) → Shows old ops → AcceptsAll size ops added → Shows new (ops ++ added) → ((o : Op) → Contains added o → TouchesOneOf new ranges o)
+pub format_between : {size : Size} (ops added : List Op) (old new : List Element) (ranges : List PlaceRange) → Shows old ops → AcceptsAll size ops added → Shows new (ops ++ added) → ((o : Op) → Contains added o → TouchesOneOf (ops ++ added) new ranges o)
     → (i : ℕ) (e : Element) → slice_get new i ≡ Some e → LiesOutside ranges i → (f : Format) → IsFormat ops e.id f ↔ IsFormat (ops ++ added) e.id f
 format_between ops added old new ranges shows all shown touched i e g out f =
     let was = there_outside ops added old new ranges shows shown touched i e g out in
@@ -178,5 +181,5 @@ format_between ops added old new ranges shows all shown touched i e g out f =
     (λ key o held touches.
     let t = touched o held in
     let r : PlaceRange = t.0 in
-    outside (ops ++ added) new shown r.low r.high o (within_window new r.low r.high o t.2) key e.id i (e, g, refl) (outside_one ranges i out r t.1) touches)
+    outside (ops ++ added) new shown r.low r.high o (within_window (ops ++ added) new r.low r.high o t.2) key e.id i (e, g, refl) (outside_one ranges i out r t.1) touches)
     f

@@ -209,7 +209,7 @@ module _ (R : OpId → OpId → Type 0) (asym : (a b : OpId) → R a b → R b a
 
 -- ---- a change
 module _ (ops added : List Op) (old new : List Element) (inner : List PlaceRange) (shows : Shows old ops) (shown : Shows new (ops ++ added))
-    (touched : (o : Op) → Contains added o → TouchesOneOf new inner o) where
+    (touched : (o : Op) → Contains added o → TouchesOneOf (ops ++ added) new inner o) where
   -- where the same stands in both, they are parted
   pub same_places : (a b : ℕ) → slice_get old a ≡ slice_get new b → AreParted old new a b
   same_places = parted_where (Precedes (ops ++ added)) (one_way ops added old new shows shown) old new (rises_before ops added old new shows shown) (rises_now ops added old new shows shown)

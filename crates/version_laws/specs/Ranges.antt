@@ -5,9 +5,9 @@ use Rattle.char_sequence.specs.declared.sequence.Element.{Element}
 use Rattle.mark_places.specs.declared.range.PlaceRange.{PlaceRange}
 use Rattle.version_laws.specs.Touched.{TouchesWithin}
 
--- the operation touches places of one of the ranges alone
-abbrev pub TouchesOneOf : List Element → List PlaceRange → Op → Type 0
-TouchesOneOf es ranges o = (r : PlaceRange) × Contains ranges r × TouchesWithin es r.low r.high o
+-- of these operations, one touches places of one of the ranges alone
+abbrev pub TouchesOneOf : List Op → List Element → List PlaceRange → Op → Type 0
+TouchesOneOf ops es ranges o = (r : PlaceRange) × Contains ranges r × TouchesWithin ops es r.low r.high o
 
 -- the place is in none of the ranges
 abbrev pub LiesOutside : List PlaceRange → ℕ → Type 0

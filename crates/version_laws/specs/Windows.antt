@@ -5,7 +5,7 @@ use Rattle.change_ops.specs.declared.operation.Op.{Op}
 use Rattle.char_sequence.specs.declared.sequence.Element.{Element}
 use Rattle.mark_anchors.specs.Places.{Lies}
 
--- the operation inserts or removes a character, or is a mark that covers no place below `from` and none from `to` on
+-- the operation is no mark, or one that covers no place below `from` and none from `to` on
 abbrev pub IsWithinWindow : List Element → ℕ → ℕ → Op → Type 0
 IsWithinWindow es from to o =
     (is_edit o ≡ true)

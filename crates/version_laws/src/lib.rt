@@ -27,7 +27,7 @@ pub fn order_stays()
         → Before ops (Some x) y ↔ Before (ops ++ op ∷ []) (Some x) y }
 {}
 
-/// An insert or a removal leaves the format of each character that was there.
+/// An insert, a removal or a revival leaves the format of each character that was there.
 pub fn edit_keeps_formats()
     ensures { (ops : List Op) (es : List Element) (op : Op) → Shows es ops → Accepts Large ops op → is_edit op ≡ true
         → (e : OpId) → Present ops e → (f : Format) → IsFormat ops e f ↔ IsFormat (ops ++ op ∷ []) e f }
@@ -52,6 +52,6 @@ pub fn window_keeps_spans()
 pub fn changes_keep_between_ranges()
     ensures { (ops added : List Op) (old new : List Element) (ranges : List PlaceRange) → Shows old ops
         → Shows new (ops ++ added) → AreApart ranges 0 (length new)
-        → ((o : Op) → Contains added o → TouchesOneOf new ranges o)
+        → ((o : Op) → Contains added o → TouchesOneOf (ops ++ added) new ranges o)
         → (olds : List PlaceRange) × AreChangedWithin old new olds ranges 0 0 }
 {}

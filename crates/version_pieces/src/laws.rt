@@ -22,7 +22,8 @@ pub fn windows_are_version(now: &PieceVersion, next: &PieceVersion)
     ensures { (ops added : List Op) (old new : List Element) (olds ranges : List PlaceRange) (number : ℕ)
         (windows : List Replacement) (marks : List Op) → Shows old ops → AcceptsAll Large ops added
         → Shows new (ops ++ added) → AreMarks (ops ++ added) marks → AreApart ranges 0 (length new)
-        → ((o : Op) → Contains added o → TouchesOneOf new ranges o) → AreChangedWithin old new olds ranges 0 0
+        → ((o : Op) → Contains added o → TouchesOneOf (ops ++ added) new ranges o)
+        → AreChangedWithin old new olds ranges 0 0
         → IsVersion ops number now.now → AreReplacements old new marks olds ranges windows
         → glyphs (spans_of next.now) ≡ put_all windows (glyphs (spans_of now.now))
         → IsVersion (ops ++ added) next.now.number next.now }

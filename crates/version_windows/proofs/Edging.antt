@@ -49,7 +49,7 @@ edged_more characters w [] one behind rest = one
 edged_more characters w (x ∷ ws) one behind rest = (one, behind (omega arith), rest)
 
 module _ {size : Size} (ops added marks : List Op) (old new : List Element) (inner : List PlaceRange) (shows : Shows old ops) (all : AcceptsAll size ops added) (later : Shows new (ops ++ added))
-    (held : AreMarks (ops ++ added) marks) (touched : (o : Op) → Contains added o → TouchesOneOf new inner o) (now : List Span) (maximal : AreMaximal now) (spans : AreSpans ops now) where
+    (held : AreMarks (ops ++ added) marks) (touched : (o : Op) → Contains added o → TouchesOneOf (ops ++ added) new inner o) (now : List Span) (maximal : AreMaximal now) (spans : AreSpans ops now) where
   counted : length (glyphs now) ≡ visible old
   counted = glyphs_counted ops old shows now maximal spans
 

@@ -2,6 +2,8 @@ pub mod Runs
 pub mod Lines
 pub mod Joining
 pub mod Touching
+pub mod Hulls
+pub mod Walking
 pub mod Changing
 pub mod Choosing
 pub mod Replaced

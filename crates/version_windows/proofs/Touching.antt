@@ -8,14 +8,15 @@ use Rattle.std.proofs.lemmas.List.{get_or_default}
 use Rattle.std.proofs.lemmas.List.Elements.{All-contains}
 use Rattle.std.proofs.lemmas.List.Sorted.{Contains-permutation, IsPermutation-sym}
 use Rattle.std.proofs.lemmas.Option.{slice_get_within}
+use Rattle.change_ops.specs.declared.id.OpId.{OpId}
 use Rattle.change_ops.specs.declared.operation.Op.{Op}
-use Rattle.change_ops.specs.declared.operation.Op.TheVariants.{Insert, Remove, AddMark, RemoveMark}
+use Rattle.change_ops.specs.declared.operation.Op.TheVariants.{Insert, Remove, AddMark, RemoveMark, Revive}
 use Rattle.char_sequence.specs.declared.sequence.Element.{Element}
 use Rattle.char_sequence.specs.Visible.{IsFirstVisible, IsLastVisible}
 use Rattle.mark_places.specs.PlaceRanges.{AreApart}
 use Rattle.mark_places.specs.declared.range.PlaceRange.{PlaceRange}
 use Rattle.version_laws.specs.Ranges.{AreGapped, LiesOutside, TouchesOneOf}
-use Rattle.version_laws.specs.Touched.{CoversWithin, TouchesWithin}
+use Rattle.version_laws.specs.Touched.{CoversWithin, StandsWithin, TouchesWithin}
 use Rattle.version_laws.proofs.DrawnKept.{all_from_contains}
 use Rattle.version_windows.specs.Edges.{AreWidened, HasKeptEdges, IsKeptAt, IsWidened}
 use Rattle.version_windows.specs.Joined.{HasEndsOf, IsCovered}
@@ -25,16 +26,20 @@ module _ (es : List Element) (low high low' high' : ℕ) (begins : low' ≤ low)
   covers_wider o (first, (last, lies, inl none)) = (first, (last, lies, inl none))
   covers_wider o (first, (last, lies, inr (from, to))) = (first, (last, lies, inr (omega arith, omega arith)))
 
-  touches_wider : (o : Op) → TouchesWithin es low high o → TouchesWithin es low' high' o
-  touches_wider (Insert id parent character) (place, at, from, to) = (place, at, omega arith, omega arith)
-  touches_wider (Remove id target) (place, at, from, to) = (place, at, omega arith, omega arith)
-  touches_wider (AddMark id attribute start end) t = covers_wider (AddMark id attribute start end) t
-  touches_wider (RemoveMark id key start end) t = covers_wider (RemoveMark id key start end) t
+  stands_wider : (x : OpId) → StandsWithin es low high x → StandsWithin es low' high' x
+  stands_wider x (place, at, from, to) = (place, at, omega arith, omega arith)
 
-pub covered_touched : (es : List Element) (ranges : List PlaceRange) (range : PlaceRange) (o : Op) → IsCovered ranges range
-    → TouchesWithin es range.low range.high o → TouchesOneOf es ranges o
-covered_touched es ranges range o (by, held, from, to) t =
-    (by, held, touches_wider es range.low range.high by.low by.high from to o t)
+  pub touches_wider : (ops : List Op) (o : Op) → TouchesWithin ops es low high o → TouchesWithin ops es low' high' o
+  touches_wider ops (Insert id parent character) t = stands_wider id t
+  touches_wider ops (Remove id target) t = stands_wider target t
+  touches_wider ops (AddMark id attribute start end) t = covers_wider (AddMark id attribute start end) t
+  touches_wider ops (RemoveMark id key start end) t = covers_wider (RemoveMark id key start end) t
+  touches_wider ops (Revive id removal) t = λ x removed. stands_wider x (t x removed)
+
+pub covered_touched : (ops : List Op) (es : List Element) (ranges : List PlaceRange) (range : PlaceRange) (o : Op) → IsCovered ranges range
+    → TouchesWithin ops es range.low range.high o → TouchesOneOf ops es ranges o
+covered_touched ops es ranges range o (by, held, from, to) t =
+    (by, held, touches_wider es range.low range.high by.low by.high from to ops o t)
 
 -- ---- ranges that are apart
 first_or_rest : (x : PlaceRange) (xs : List PlaceRange) (r : PlaceRange) → Contains (x ∷ xs) r → (x ≡ r) ⊎ Contains xs r
@@ -188,14 +193,14 @@ module _ (es : List Element) (inner wider : List PlaceRange) (are : AreWidened e
         let by = covered w.0 (Contains-permutation wider sorted w.0 moved w.1) in
         (w.0, by.0, w.2, by.1, by.2, by.3)
 
-    pub widened_touched : (o : Op) → TouchesOneOf es inner o → TouchesOneOf es all o
-    widened_touched o (r, held, t) =
+    pub widened_touched : (ops : List Op) (o : Op) → TouchesOneOf ops es inner o → TouchesOneOf ops es all o
+    widened_touched ops o (r, held, t) =
         let by = covering r held in
         let low = wider_low es r by.0 by.2 in
         let high = wider_high es r by.0 by.2 (inside_of r held) in
         let from = by.4 in
         let to = by.5 in
-        covered_touched es all r o (by.1, by.3, omega (arith, low, from), omega (arith, high, to)) t
+        covered_touched ops es all r o (by.1, by.3, omega (arith, low, from), omega (arith, high, to)) t
 
     range_under : (w : PlaceRange) → Contains sorted w → (r : PlaceRange) × Contains inner r × IsWidened es r w
     range_under w held = range_of w (Contains-permutation sorted wider w (IsPermutation-sym wider sorted moved) held)

@@ -1,5 +1,7 @@
 pub mod Joined
 pub mod Step
 pub mod Places
+pub mod Touches
+pub mod Walked
 pub mod Edges
 pub mod Neighbors

@@ -5,4 +5,5 @@
 mod ranges;
 pub mod step;
 mod touched;
+mod walk;
 mod windows;

@@ -32,10 +32,10 @@ pub fn next_version(
     budget: &mut Budget,
 ) -> Result<NextVersion, AllocError>
     requires step { (ops : List Op)
-        × IsStep ops previous.now before.now.elements sequence.now.elements marks.now lines.now }
+        × IsStep ops previous.now before.now.elements sequence.now marks.now lines.now }
     requires places { AreMarkPlaces sequence.now.elements marks.now places.now }
     ensures is { IfOk result (λ next. (ops : List Op)
-        → IsStep ops previous.now before.now.elements sequence.now.elements marks.now lines.now
+        → IsStep ops previous.now before.now.elements sequence.now marks.now lines.now
         → IsVersion (ops ++ ops_of_lines lines.now) number next.version) }
     ensures alike { IfOk result (λ next. AreAlike (spans_of previous.now) (spans_of next.version)
         next.alike.front next.alike.behind) }

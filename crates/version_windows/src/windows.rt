@@ -1,5 +1,5 @@
 //! What the ranges that a change touches show after it, for the places that they had before it.
-ghost use Rattle.std.specs.Prelude.{◌≡◌, ◌<◌, ◌≤◌, ◌-◌, ◌⊎◌, [], ◌∷◌, ℕ, All, Contains, IfOk, IsTrue, List, count_by};
+ghost use Rattle.std.specs.Prelude.{◌≡◌, ◌<◌, ◌≤◌, ◌-◌, ◌⊎◌, [], ◌∷◌, ℕ, All, IfOk, IsTrue, List, count_by};
 ghost use Rattle.std.specs.Prelude.{length, take};
 ghost use Rattle.change_ops.specs.Lines.{ops_of_lines};
 ghost use Rattle.change_ops.specs.declared.line.Line.{Line as TheLine};
@@ -13,11 +13,12 @@ ghost use Rattle.mark_places.specs.declared.range.PlaceRange.{PlaceRange as TheR
 ghost use Rattle.span_flatten.specs.Taken.{is_visible};
 ghost use Rattle.span_flatten.specs.Window.{IsFlattened};
 ghost use Rattle.version_glyphs.specs.Replacements.{AreReplacements};
-ghost use Rattle.version_laws.specs.Ranges.{AreChangedWithin, AreGapped, TouchesOneOf};
+ghost use Rattle.version_laws.specs.Ranges.{AreChangedWithin, AreGapped};
 ghost use Rattle.version_windows.specs.Edges.{HasKeptEdges};
 ghost use Rattle.version_windows.specs.Neighbors.{GiveAllFormats, GiveFormats, IsLikeNeighbor};
 ghost use Rattle.version_windows.specs.Places.{IsSamePlace};
 ghost use Rattle.version_windows.specs.Step.{IsStep};
+ghost use Rattle.version_windows.specs.Touches.{AllTouchOneOf};
 
 use char_sequence::sequence::Sequence;
 use mark_anchors::marks::Marks;
@@ -233,9 +234,9 @@ pub(crate) fn windows_of(
     budget: &mut Budget,
 ) -> Result<Vec<Replacement>, AllocError>
     requires step { (ops : List Op) × ((lines : List TheLine)
-        × IsStep ops previous.now before.now.elements sequence.now.elements marks.now lines
+        × IsStep ops previous.now before.now.elements sequence.now marks.now lines
         × ((inner : List TheRange)
-        × ((o : Op) → Contains (ops_of_lines lines) o → TouchesOneOf sequence.now.elements inner o)
+        × AllTouchOneOf sequence.now (ops_of_lines lines) inner
         × All (HasKeptEdges sequence.now.elements inner) ranges.now)) }
     requires places { AreMarkPlaces sequence.now.elements marks.now places.now }
     requires apart { AreApart ranges.now 0 (length sequence.now.elements) }

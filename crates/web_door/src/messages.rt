@@ -17,7 +17,7 @@ use tungstenite::{
 };
 use websocket::error::ProtocolError;
 
-/// The most bytes of a header of a change: `change2`, a node and a count.
+/// The most bytes of a header of a change: `change3`, a node and a count.
 const HEADER_BYTES: usize = 18;
 
 /// The most lines of a change behind its header.

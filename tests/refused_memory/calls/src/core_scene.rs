@@ -33,15 +33,17 @@ pub struct Board<'p, N: Naming> {
     pub programs: &'p boxcar::Vec<Verified>,
 }
 
-/// The change that a call is about: a run that is longer than a chunk of the text, a removal, and marks.
+/// The change that a call is about: a run that is longer than a chunk of the text, marks, and removals, of which some are
+/// taken back.
 pub fn third(alloc: Global) -> Result<Change, Fault> {
-    let mut text = String::from_str(alloc, "change2 3 5\nr 9@3 2@1 70")?;
+    let mut text = String::from_str(alloc, "change3 3 9\nr 9@3 2@1 70")?;
     for _ in 0..70u8 {
         text.push_str(" 78")?;
     }
     text.push_str(
         "\nd 79@3 1@1\nm 80@3 link https://a.b <2@1 >3@1\nm 81@3 comment:7 - ^ $\nu 82@3 strong <2@1 $\n",
     )?;
+    text.push_str("d 83@3 5@2 2\nd 85@3 1@1\nv 86@3 83@3\nv 87@3 79@3\n")?;
     change_of(alloc, text.as_str()).ok_or(Fault::Scene)
 }
 

@@ -8,7 +8,7 @@ use std::alloc::{AllocError, Global};
 
 /// A change of each kind of line.
 const CHANGE: &str =
-    "change2 1 6\nr 1@1 - 3 61 62 63\ni 4@1 3@1 64\nm 5@1 link https://a.b <1@1 >2@1\nm 6@1 code - >2@1 $\nu 7@1 strong ^ $\nd 8@1 4@1\n";
+    "change3 1 9\nr 1@1 - 3 61 62 63\ni 4@1 3@1 64\nm 5@1 link https://a.b <1@1 >2@1\nm 6@1 code - >2@1 $\nu 7@1 strong ^ $\nd 8@1 4@1\nv 9@1 8@1\nd 10@1 1@1 3\nv 13@1 11@1 2\n";
 
 /// Makes a call on the text of a change.
 pub fn play<R: Print>(stage: &Stage<'_, R>) -> Result<bool, Fault> {

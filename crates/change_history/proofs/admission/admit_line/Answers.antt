@@ -15,3 +15,15 @@ returns-in-Operation c = subst (λ (l : Line). Admits c.args.size (ops_of l) c.a
 
 pub returns-in-Run : goal.returns-in-Run
 returns-in-Run c = subst (λ (l : Line). Admits c.args.size (ops_of l) c.args.parts.now c.args.tally.now c.admit_run.new.tally c.admit_run.result) (sym c.in-Run.is) c.admit_run.ensures
+
+pub admit_removals-requires : goal.admit_removals-requires
+admit_removals-requires c = subst (λ (l : Line). AreNext c.args.size (ops_of l) c.args.parts.now c.args.tally.now) c.in-Removals.is c.requires
+
+pub returns-in-Removals : goal.returns-in-Removals
+returns-in-Removals c = subst (λ (l : Line). Admits c.args.size (ops_of l) c.args.parts.now c.args.tally.now c.admit_removals.new.tally c.admit_removals.result) (sym c.in-Removals.is) c.admit_removals.ensures
+
+pub admit_revivals-requires : goal.admit_revivals-requires
+admit_revivals-requires c = subst (λ (l : Line). AreNext c.args.size (ops_of l) c.args.parts.now c.args.tally.now) c.in-Revivals.is c.requires
+
+pub returns-in-Revivals : goal.returns-in-Revivals
+returns-in-Revivals c = subst (λ (l : Line). Admits c.args.size (ops_of l) c.args.parts.now c.args.tally.now c.admit_revivals.new.tally c.admit_revivals.result) (sym c.in-Revivals.is) c.admit_revivals.ensures

@@ -26,3 +26,15 @@ returns-in-Operation c =
 
 pub returns-in-Run : goal.returns-in-Run
 returns-in-Run c = subst (λ (l : Line). Applies (ops_of l) c.args.parts.now c.apply_run.new.parts c.apply_run.result) (sym c.in-Run.is) c.apply_run.ensures
+
+pub apply_removals-requires : goal.apply_removals-requires
+apply_removals-requires c = subst (λ (l : Line). AreAcceptedNext (ops_of l) c.args.parts.now) c.in-Removals.is c.requires
+
+pub returns-in-Removals : goal.returns-in-Removals
+returns-in-Removals c = subst (λ (l : Line). Applies (ops_of l) c.args.parts.now c.apply_removals.new.parts c.apply_removals.result) (sym c.in-Removals.is) c.apply_removals.ensures
+
+pub apply_revivals-requires : goal.apply_revivals-requires
+apply_revivals-requires c = subst (λ (l : Line). AreAcceptedNext (ops_of l) c.args.parts.now) c.in-Revivals.is c.requires
+
+pub returns-in-Revivals : goal.returns-in-Revivals
+returns-in-Revivals c = subst (λ (l : Line). Applies (ops_of l) c.args.parts.now c.apply_revivals.new.parts c.apply_revivals.result) (sym c.in-Revivals.is) c.apply_revivals.ensures

@@ -1,19 +1,15 @@
-use Rattle.std.proofs.Common.{◌≡◌, Some, length, arith, refl, sym, subst}
+use Rattle.std.proofs.Common.{◌≡◌, Some, None, length, arith, refl, sym, subst}
 use Rattle.std.specs.List.{slice_get}
 use Rattle.std.proofs.lemmas.Option.{slice_get_read}
 use Rattle.change_ops.specs.Lines.{ops_of_lines}
-use Rattle.char_sequence.specs.Order.{Shows}
 use Rattle.change_history.specs.Kept.{IsNotAccepted}
-use Rattle.change_history.specs.Room.{IsRoom}
 use Rattle.change_history.proofs.Chronicle.{begin_of, line_stands}
 use Rattle.change_history.proofs.Trying.{trial_begun, line_tried, refused_try_at, tried_all}
 use Rattle.change_history.proofs.trial.try_all.Goals as goal
 
 pub loop-index-init : goal.loop-index-init
 loop-index-init c = λ ops k.
-    let room = c.new.ensures ops (subst (λ z. Shows z.elements ops) (sym c.sequence.ensures) k.shows) in
-    trial_begun ops c.args.lines.now c.args.node c.args.parts.now (record { tally = c.tally.result; room = c.new.result }) k c.requires.own (c.tally.ensures ops k)
-    (subst (λ z. IsRoom z.elements ops c.new.result) c.sequence.ensures room)
+    trial_begun ops c.args.lines.now c.args.node c.args.parts.now (record { tally = c.tally.result; copy = None }) k c.requires.own (c.tally.ensures ops k) refl
 
 pub try_line-requires : goal.try_line-requires
 try_line-requires c =

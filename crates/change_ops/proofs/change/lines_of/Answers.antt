@@ -12,6 +12,6 @@ returns-clause-kept c = lines_own _ _ _ _ _ _ _ (is_done _ _ _ _ _ _ _ _ c.loop-
 pub loop-index-preserved : goal.loop-index-preserved
 loop-index-preserved c =
     let pushed : c.push.new.self.items ≡ c.loop-index.lines.items ++ c.in_ok-line.line ∷ [] = search rules in
-    let counted = c.count-room.ensures.value in
+    let behind = c.behind-room.ensures in
     let most = c.loop-index.invariant.room in
-    record { text = c.in_ok-line.ensures.text; room = omega arith; same = rw (pushed, counted) (goes_on _ _ _ _ _ _ _ _ _ _ c.loop-index-test.true c.in_ok-line.ensures.read c.loop-index.invariant.same) }
+    record { text = c.in_ok-line.ensures.text; room = rw behind (omega arith); same = rw (pushed, behind) (goes_on _ _ _ _ _ _ _ _ _ _ c.loop-index-test.true c.in_ok-line.ensures.read c.loop-index.invariant.same) }

@@ -21,18 +21,18 @@ use Rattle.version_windows.proofs.step.next_version.Goals as goal
 pub touched-requires : goal.touched-requires
 touched-requires c =
     let added : List Op = ops_of_lines c.args.lines.now in
-    (c.requires.step.0 ++ added, c.requires.step.1.shows, λ o held. Contains-append_right c.requires.step.0 added o held)
+    (c.requires.step.0 ++ added, c.requires.step.1.shows, c.requires.step.1.removals, λ o held. Contains-append_right c.requires.step.0 added o held)
 
 -- the ranges are what the change touches, wherever they are read
-module _ (es : List Element) (added : List Op) (ranges read : List PlaceRange) (same : read ≡ ranges) where
+module _ (es : List Element) (ops added : List Op) (ranges read : List PlaceRange) (same : read ≡ ranges) where
   apart_read : AreApart ranges 0 (length es) → AreApart read 0 (length es)
   apart_read = subst (λ (l : List PlaceRange). AreApart l 0 (length es)) (sym same)
 
   gapped_read : AreGapped ranges → AreGapped read
   gapped_read = subst AreGapped (sym same)
 
-  touched_read : ((o : Op) → Contains added o → TouchesOneOf es ranges o) → (o : Op) → Contains added o → TouchesOneOf es read o
-  touched_read touched o held = subst (λ (l : List PlaceRange). TouchesOneOf es l o) (sym same) (touched o held)
+  touched_read : ((o : Op) → Contains added o → TouchesOneOf (ops ++ added) es ranges o) → (o : Op) → Contains added o → TouchesOneOf (ops ++ added) es read o
+  touched_read touched o held = subst (λ (l : List PlaceRange). TouchesOneOf (ops ++ added) es l o) (sym same) (touched o held)
 
   edges_read : (inner : List PlaceRange) → All (HasKeptEdges es inner) ranges → All (HasKeptEdges es inner) read
   edges_read inner = subst (All (HasKeptEdges es inner)) (sym same)
@@ -47,13 +47,13 @@ windows_of-requires c =
     let read : List PlaceRange = c.as_slice-ranges.result.now in
     let same : read ≡ ranges = c.as_slice-ranges.ensures.value in
     let told = c.in_ok-ranges.ensures in
-    let apart = apart_read es added ranges read same told.apart in
+    let apart = apart_read es ops added ranges read same told.apart in
     record {
-      step = (ops, (c.args.lines.now, step, (told.edges.0, told.edges.1, edges_read es added ranges read same told.edges.0 told.edges.2)));
+      step = (ops, (c.args.lines.now, step, (told.edges.0, told.edges.1, edges_read es ops added ranges read same told.edges.0 told.edges.2)));
       places = c.requires.places;
       apart = apart;
-      gapped = gapped_read es added ranges read same told.gapped;
-      changed = kept_between ops added c.args.before.now.elements es read step.shows_before step.shows (touched_read es added ranges read same told.touched) apart;
+      gapped = gapped_read es ops added ranges read same told.gapped;
+      changed = kept_between ops added c.args.before.now.elements es read step.shows_before step.shows (touched_read es ops added ranges read same (told.touched (ops ++ added) step.removals)) apart;
     }
 
 pub with_windows-requires : goal.with_windows-requires
@@ -67,8 +67,8 @@ with_windows-requires c =
     let read : List PlaceRange = c.as_slice-ranges.result.now in
     let same : read ≡ ranges = c.as_slice-ranges.ensures.value in
     let told = c.in_ok-ranges.ensures in
-    let apart = apart_read es added ranges read same told.apart in
-    let touched = touched_read es added ranges read same told.touched in
+    let apart = apart_read es ops added ranges read same told.apart in
+    let touched = touched_read es ops added ranges read same (told.touched (ops ++ added) step.removals) in
     let changed = kept_between ops added old es read step.shows_before step.shows touched apart in
     let windows : List Replacement = c.in_ok-windows.windows.items in
     let are = c.in_ok-windows.ensures.replaced changed.0 changed.1 in
@@ -77,8 +77,8 @@ with_windows-requires c =
     let text = text_put ops added old es changed.0 read windows c.args.marks.now step.shows_before step.accepted step.shows step.marks apart touched changed.1 are now c.keeps.ensures.maximal step.version.1.spans in
     let inner : List PlaceRange = told.edges.0 in
     let edged =
-    windows_edged ops added c.args.marks.now old es inner step.shows_before step.accepted step.shows step.marks told.edges.1 now c.keeps.ensures.maximal step.version.1.spans
-    changed.0 read windows changed.1 are apart (gapped_read es added ranges read same told.gapped) (edges_read es added ranges read same inner told.edges.2) in
+    windows_edged ops added c.args.marks.now old es inner step.shows_before step.accepted step.shows step.marks (told.edges.1 (ops ++ added) step.removals) now c.keeps.ensures.maximal step.version.1.spans
+    changed.0 read windows changed.1 are apart (gapped_read es ops added ranges read same told.gapped) (edges_read es ops added ranges read same inner told.edges.2) in
     record {
       order = subst (λ (l : List Replacement). AreInOrder l 0 (length (glyphs now))) (sym c.as_slice.ensures.value) order;
       windows = subst (All HasMaximalSpans) (sym c.as_slice.ensures.value) (windows_maximal old es c.args.marks.now changed.0 read windows are);
@@ -98,8 +98,8 @@ returns-clause-is c =
     let read : List PlaceRange = c.as_slice-ranges.result.now in
     let same : read ≡ ranges = c.as_slice-ranges.ensures.value in
     let told = c.in_ok-ranges.ensures in
-    let apart = apart_read es added ranges read same told.apart in
-    let touched = touched_read es added ranges read same told.touched in
+    let apart = apart_read es ops added ranges read same told.apart in
+    let touched = touched_read es ops added ranges read same (told.touched (ops ++ added) step.removals) in
     let changed = kept_between ops added old es read step.shows_before step.shows touched apart in
     let windows : List Replacement = c.in_ok-windows.windows.items in
     let are = c.in_ok-windows.ensures.replaced changed.0 changed.1 in

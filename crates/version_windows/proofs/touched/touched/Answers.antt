@@ -64,9 +64,9 @@ returns-clause-touched c =
     let covered : (w : PlaceRange) → Contains sorted w → IsCovered all w =
     λ w held. c.in_ok-ranges.ensures.covered w (subst (λ (l : List PlaceRange). Contains l w) (sym c.as_slice.ensures.value) held) in
     let ends : All (HasEndsOf sorted) all = subst (λ (l : List PlaceRange). All (HasEndsOf l) all) c.as_slice.ensures.value c.in_ok-ranges.ensures.ends in
-    λ o held.
+    λ ops removals o held.
     widened_touched es inner wider are c.in_ok-each.ensures.order c.in_ok-each.ensures.within sorted all same
-    (returns-clause-apart c) c.in_ok-ranges.ensures.gapped covered ends o (c.in_ok-each.ensures.touched o held)
+    (returns-clause-apart c) c.in_ok-ranges.ensures.gapped covered ends ops o (c.in_ok-each.ensures.touched ops removals o held)
 
 pub returns-clause-edges : goal.returns-clause-edges
 returns-clause-edges c =
@@ -83,7 +83,7 @@ returns-clause-edges c =
     λ w held. c.in_ok-ranges.ensures.covered w (subst (λ (l : List PlaceRange). Contains l w) (sym c.as_slice.ensures.value) held) in
     let ends : All (HasEndsOf sorted) all = subst (λ (l : List PlaceRange). All (HasEndsOf l) all) c.as_slice.ensures.value c.in_ok-ranges.ensures.ends in (
       inner,
-      λ o held. c.in_ok-each.ensures.touched o held,
+      c.in_ok-each.ensures.touched,
       kept_edges es inner wider are c.in_ok-each.ensures.order c.in_ok-each.ensures.within sorted all same
           (returns-clause-apart c) c.in_ok-ranges.ensures.gapped covered ends,
     )

@@ -17,7 +17,7 @@ touched_by_line-requires c =
     let i : ℕ = c.loop-line.line-index in
     let here : slice_get lines i ≡ Some c.line-item.result =
     slice_get_read lines (length lines) i c.line-item.result refl c.loop-line-test.true c.line-item.is in
-    (c.requires.0, c.requires.1, λ o held. c.requires.2 o (line_within lines i c.line-item.result here o held))
+    (c.requires.0, c.requires.1, c.requires.2, λ o held. c.requires.3 o (line_within lines i c.line-item.result here o held))
 
 pub loop-line-preserved : goal.loop-line-preserved
 loop-line-preserved c =
@@ -37,24 +37,24 @@ loop-line-preserved c =
           subst (All (λ (r : PlaceRange). r.high ≤ length es)) (sym grown)
           (All-push (λ (r : PlaceRange). r.high ≤ length es) ranges range c.loop-line.invariant.within c.touched_by_line.ensures.within);
       touched =
-          λ k line less g o held.
-          subst (λ (l : List PlaceRange). TouchesOneOf es l o) (sym grown)
+          λ k line less g ops removals o held.
+          subst (λ (l : List PlaceRange). TouchesOneOf ops es l o) (sym grown)
           (⊎_elim
           (λ (earlier : k < i).
-          let t = c.loop-line.invariant.touched k line earlier g o held in
+          let t = c.loop-line.invariant.touched k line earlier g ops removals o held in
           (t.0, Contains-append_left ranges (range ∷ []) t.0 t.1, t.2))
           (λ (last : i ≤ k).
           let same : k ≡ i = omega arith in
           let one : line ≡ item = same_Some line item (sym g ∙ ap (slice_get lines) same ∙ here) in
-          (range, Contains-push ranges range, c.touched_by_line.ensures.touched o (subst (λ l. Contains (ops_of l) o) one held)))
+          (range, Contains-push ranges range, c.touched_by_line.ensures.touched ops removals o (subst (λ l. Contains (ops_of l) o) one held)))
           (cases_lt k i));
     }
 
 pub returns-clause-touched : goal.returns-clause-touched
 returns-clause-touched c =
-    λ o held.
+    λ ops removals o held.
     let lines : List Line = c.args.lines.now in
     let r = line_of lines o held in
     let within : r.0 < length lines = slice_get_within lines r.0 r.1.0 r.1.1 in
     let all : length lines ≤ c.loop-line.line-index = c.loop-line-test.false in
-    c.loop-line.invariant.touched r.0 r.1.0 (omega arith) r.1.1 o r.1.2
+    c.loop-line.invariant.touched r.0 r.1.0 (omega arith) r.1.1 ops removals o r.1.2

@@ -1,10 +1,11 @@
 use Rattle.std.proofs.Common.{◌≡◌, ◌≤◌, ◌<◌, ◌++◌, ◌∷◌, [], ℕ, List, Some, All, length, eq-eqb, sym, subst, ◌∙◌, arith, ⊎_elim}
-use Rattle.std.specs.List.{slice_get, Contains}
+use Rattle.std.specs.List.{slice_get}
 use Rattle.std.proofs.lemmas.Bool.{cases_lt, eqb-true, false≢true}
 use Rattle.std.proofs.lemmas.List.{nil_from_length}
 use Rattle.change_ops.specs.Lines.{ops_of_lines}
 use Rattle.change_ops.specs.declared.line.Line.{Line}
 use Rattle.change_ops.specs.declared.operation.Op.{Op}
+use Rattle.char_sequence.specs.Held.{Sequence}
 use Rattle.char_sequence.specs.declared.sequence.Element.{Element}
 use Rattle.mark_places.specs.PlaceRanges.{AreApart}
 use Rattle.mark_places.specs.MarkPlace.{MarkPlace}
@@ -14,10 +15,11 @@ use Rattle.mark_anchors.proofs.Alike.{ok_more}
 use Rattle.span_flatten.specs.Version.{Version, spans_of}
 use Rattle.version_glyphs.specs.Glyphs.{AreMaximal, glyphs}
 use Rattle.version_glyphs.specs.Replacements.{AreReplacements}
-use Rattle.version_laws.specs.Ranges.{AreChangedWithin, AreGapped, TouchesOneOf}
+use Rattle.version_laws.specs.Ranges.{AreChangedWithin, AreGapped}
 use Rattle.version_windows.specs.Edges.{HasKeptEdges}
 use Rattle.version_windows.specs.Neighbors.{GiveAllFormats, HasNeighbor, IsLikeNeighbor}
 use Rattle.version_windows.specs.Step.{IsStep}
+use Rattle.version_windows.specs.Touches.{AllTouchOneOf}
 use Rattle.version_windows.specs.declared.windows.Formats.TheVariants.{OfNeighbors}
 use Rattle.version_windows.proofs.Edging.{have_neighbors}
 use Rattle.version_windows.proofs.windows.windows_of.Goals as goal
@@ -58,12 +60,12 @@ returns-then-is_empty-clause-replaced c =
     (no_windows c.args.before.now.elements c.args.sequence.now.elements c.args.marks.now olds ranges empty changed)
 
 -- each range has a neighbor
-neighbors : (ops : List Op) (lines : List Line) (previous : Version) (old es : List Element) (marks : List Op) (inner ranges : List PlaceRange) → IsStep ops previous old es marks lines
-    → ((o : Op) → Contains (ops_of_lines lines) o → TouchesOneOf es inner o) → All (HasKeptEdges es inner) ranges → AreMaximal (spans_of previous) → AreApart ranges 0 (length es) → AreGapped ranges
-    → (places : List MarkPlace) → AreMarkPlaces es marks places → All (IsLikeNeighbor places (length es)) ranges → (olds : List PlaceRange) → AreChangedWithin old es olds ranges 0 0
-    → (k : ℕ) (was range : PlaceRange) → slice_get olds k ≡ Some was → slice_get ranges k ≡ Some range → HasNeighbor (glyphs (spans_of previous)) old es marks was range
-neighbors ops lines previous old es marks inner ranges step touched kept maximal apart gapped places placed like olds changed =
-    have_neighbors ops (ops_of_lines lines) marks old es inner step.shows_before step.accepted step.shows step.marks touched (spans_of previous) maximal step.version.1.spans
+neighbors : (ops : List Op) (lines : List Line) (previous : Version) (old : List Element) (sequence : Sequence) (marks : List Op) (inner ranges : List PlaceRange) → IsStep ops previous old sequence marks lines
+    → AllTouchOneOf sequence (ops_of_lines lines) inner → All (HasKeptEdges sequence.elements inner) ranges → AreMaximal (spans_of previous) → AreApart ranges 0 (length sequence.elements) → AreGapped ranges
+    → (places : List MarkPlace) → AreMarkPlaces sequence.elements marks places → All (IsLikeNeighbor places (length sequence.elements)) ranges → (olds : List PlaceRange) → AreChangedWithin old sequence.elements olds ranges 0 0
+    → (k : ℕ) (was range : PlaceRange) → slice_get olds k ≡ Some was → slice_get ranges k ≡ Some range → HasNeighbor (glyphs (spans_of previous)) old sequence.elements marks was range
+neighbors ops lines previous old sequence marks inner ranges step touched kept maximal apart gapped places placed like olds changed =
+    have_neighbors ops (ops_of_lines lines) marks old sequence.elements inner step.shows_before step.accepted step.shows step.marks (touched (ops ++ ops_of_lines lines) step.removals) (spans_of previous) maximal step.version.1.spans
     olds ranges changed apart gapped kept places placed like
 
 pub replacements-requires : goal.replacements-requires
@@ -86,7 +88,7 @@ replacements-requires c =
         c.requires.changed.1,
         (
           marks,
-          neighbors c.requires.step.0 c.requires.step.1.0 c.args.previous.now old es marks touched.0 ranges step touched.1 touched.2 c.keeps.ensures.maximal c.requires.apart c.requires.gapped places c.requires.places like
+          neighbors c.requires.step.0 c.requires.step.1.0 c.args.previous.now old c.args.sequence.now marks touched.0 ranges step touched.1 touched.2 c.keeps.ensures.maximal c.requires.apart c.requires.gapped places c.requires.places like
               c.requires.changed.0 c.requires.changed.1,
         ),
       );
@@ -110,5 +112,5 @@ returns-clause-replaced c =
     c.replacements.result
     (λ windows is olds changed.
     is olds marks changed
-    (neighbors c.requires.step.0 c.requires.step.1.0 c.args.previous.now old es marks touched.0 ranges step touched.1 touched.2 c.keeps.ensures.maximal c.requires.apart c.requires.gapped places c.requires.places like olds changed))
+    (neighbors c.requires.step.0 c.requires.step.1.0 c.args.previous.now old c.args.sequence.now marks touched.0 ranges step touched.1 touched.2 c.keeps.ensures.maximal c.requires.apart c.requires.gapped places c.requires.places like olds changed))
     c.replacements.ensures

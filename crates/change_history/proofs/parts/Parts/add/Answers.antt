@@ -3,9 +3,9 @@ use Rattle.std.specs.List.{filter}
 use Rattle.change_ops.specs.Operations.{is_edit, is_insert, is_mark}
 use Rattle.char_sequence.proofs.Steps.{accepts_other}
 use Rattle.change_history.specs.declared.parts.Parts.{Parts}
-use Rattle.change_history.proofs.Edits.{accepts_part}
+use Rattle.change_history.proofs.Edits.{accepts_part, edits_part}
 use Rattle.version_laws.proofs.Put.{insert_put}
-use Rattle.change_history.proofs.Keeping.{keeps_edit, keeps_removal, keeps_mark, fresh_mark, mark_room, unused_of, shows_mark}
+use Rattle.change_history.proofs.Keeping.{keeps_edit, keeps_removal, keeps_revival, keeps_mark, fresh_mark, mark_room, unused_of, shows_mark}
 use Rattle.change_history.proofs.Placing.{places_put, insert_present, insert_fits}
 use Rattle.change_history.proofs.parts.Parts.add.Goals as goal
 
@@ -23,6 +23,13 @@ remove-requires-clause-accepted c = λ ops h.
 
 pub remove-requires-clause-removal : goal.remove-requires-clause-removal
 remove-requires-clause-removal c = (c.in-Remove.id, (c.in-Remove.target, c.in-Remove.is))
+
+pub revive-requires-clause-accepted : goal.revive-requires-clause-accepted
+revive-requires-clause-accepted c = λ ops h.
+    accepts_other c.args.self.now.sequence (filter is_edit c.requires.0) ops c.args.op.now c.requires.1.held h (accepts_part c.requires.0 c.args.self.now.sequence.elements c.requires.1.shows c.args.op.now c.requires.2.accepted)
+
+pub revive-requires-clause-revival : goal.revive-requires-clause-revival
+revive-requires-clause-revival c = (c.in-Revive.id, (c.in-Revive.removal, c.in-Revive.is))
 
 pub place_of-place-requires : goal.place_of-place-requires
 place_of-place-requires c =
@@ -76,13 +83,22 @@ returns-in-Remove c = λ ops k m.
     (c.remove.ensures.shows ops k.shows m.accepted)
     (c.remove.ensures.held (filter is_edit ops) k.held)
 
+pub returns-in-Revive : goal.returns-in-Revive
+returns-in-Revive c = λ ops k m.
+    let old = c.args.self.now in
+    let new : Parts = record { sequence = c.revive.new.self; marks = old.marks; places = old.places; newest = c.note.new.self } in
+    keeps_revival c.revive.result ops c.args.op.now c.in-Revive.id c.in-Revive.removal old new c.in-Revive.is k m.accepted refl refl
+    (c.in_ok-note.ensures.noted ops c.args.op.now (sym c.id.ensures) k.newest)
+    (c.revive.ensures.shows ops (filter is_edit ops) (edits_part ops) k.held k.shows m.accepted)
+    (c.revive.ensures.held (filter is_edit ops) k.held)
+
 pub returns-in-AddMark : goal.returns-in-AddMark
 returns-in-AddMark c = λ ops k m.
     let old = c.args.self.now in
     let new : Parts = record { sequence = old.sequence; marks = c.add_mark.new.marks; places = c.add_mark.new.places; newest = c.note.new.self } in
     keeps_mark c.add_mark.result ops c.args.op.now old new (ap is_edit c.in-AddMark.is) (ap is_mark c.in-AddMark.is) k refl
     (c.in_ok-note.ensures.noted ops c.args.op.now (sym c.id.ensures) k.newest)
-    (shows_mark ops c.args.op.now old (ap is_edit c.in-AddMark.is) k m.accepted) c.add_mark.ensures.marks (c.add_mark.ensures.places k.places)
+    (shows_mark ops c.args.op.now old.sequence.elements (ap is_edit c.in-AddMark.is) k.shows m.accepted) c.add_mark.ensures.marks (c.add_mark.ensures.places k.places)
 
 pub returns-in-RemoveMark : goal.returns-in-RemoveMark
 returns-in-RemoveMark c = λ ops k m.
@@ -90,4 +106,4 @@ returns-in-RemoveMark c = λ ops k m.
     let new : Parts = record { sequence = old.sequence; marks = c.add_mark-in-RemoveMark.new.marks; places = c.add_mark-in-RemoveMark.new.places; newest = c.note.new.self } in
     keeps_mark c.add_mark-in-RemoveMark.result ops c.args.op.now old new (ap is_edit c.in-RemoveMark.is) (ap is_mark c.in-RemoveMark.is) k refl
     (c.in_ok-note.ensures.noted ops c.args.op.now (sym c.id.ensures) k.newest)
-    (shows_mark ops c.args.op.now old (ap is_edit c.in-RemoveMark.is) k m.accepted) c.add_mark-in-RemoveMark.ensures.marks (c.add_mark-in-RemoveMark.ensures.places k.places)
+    (shows_mark ops c.args.op.now old.sequence.elements (ap is_edit c.in-RemoveMark.is) k.shows m.accepted) c.add_mark-in-RemoveMark.ensures.marks (c.add_mark-in-RemoveMark.ensures.places k.places)

@@ -1,3 +1,5 @@
+use Rattle.std.proofs.Common.{◌++◌}
+use Rattle.change_history.proofs.Counting.{not_unknown}
 use Rattle.change_history.proofs.parts.Parts.check_full.Goals as goal
 
 pub returns-then-is_stale : goal.returns-then-is_stale
@@ -8,5 +10,5 @@ returns-then-is_unknown c = λ size ops own node k t of full. (c.is_stale.ensure
 
 pub returns : goal.returns
 returns c = λ size ops own node k t of full.
-    let known = c.is_unknown.ensures.no ops own node k t c.if-is_unknown.false in
-    (c.is_stale.ensures.no ops own node t of c.if-is_stale.false, λ u. u.2 (known u.0 u.1), full)
+    let known = not_unknown (ops ++ own) c.args.op.now (c.is_unknown.ensures.characters ops own node k t c.if-is_unknown.false) (c.is_unknown.ensures.removal ops own node k t c.if-is_unknown.false) in
+    (c.is_stale.ensures.no ops own node t of c.if-is_stale.false, known, full)

@@ -10,4 +10,4 @@ returns c = λ ops k.
     tally_begun ops c.args.node c.last.result _ (c.last.ensures ops k.newest) refl c.unwrap_or.ensures
     (c.len.ensures.value ∙ k.held.size ∙ inserts_counted ops)
     (ap length (c.operations.ensures ∙ k.marks) ∙ length-filter is_mark ops)
-    c.new.ensures.items
+    c.new.ensures.items c.new-2.ensures

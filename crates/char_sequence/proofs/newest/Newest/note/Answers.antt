@@ -13,3 +13,14 @@ returns-clause-noted c =
     (get_lookup c.insert.new.self.entries _ refl c.args.id.node ∙ ap (λ k. lookup (nat_eq k) c.insert.new.self.entries) (sym c.node.ensures.value) ∙ u.1 ∙ ap Some c.counter.ensures.value)
     (λ q apart.
     get_lookup c.insert.new.self.entries _ refl q ∙ u.2 q (apart_nodes c.node.result c.args.id.node q c.node.ensures.value apart) ∙ sym (get_lookup c.self.inside.counters.entries c.args.self.now c.self.view_is q))
+
+pub returns-clause-here : goal.returns-clause-here
+returns-clause-here c =
+    let u = c.in_ok-insert.ensures.updates in
+    get_lookup c.insert.new.self.entries _ refl c.args.id.node ∙ ap (λ k. lookup (nat_eq k) c.insert.new.self.entries) (sym c.node.ensures.value) ∙ u.1 ∙ ap Some c.counter.ensures.value
+
+pub returns-clause-others : goal.returns-clause-others
+returns-clause-others c =
+    λ q apart.
+    let u = c.in_ok-insert.ensures.updates in
+    get_lookup c.insert.new.self.entries _ refl q ∙ u.2 q (apart_nodes c.node.result c.args.id.node q c.node.ensures.value apart) ∙ sym (get_lookup c.self.inside.counters.entries c.args.self.now c.self.view_is q)

@@ -51,7 +51,7 @@ invariant_of-self-2 c =
     let size = put_size _ _ _ _ _ same new within in (
       has_room ops _ _ _ size held.size c.requires.insert accepted,
       put_bytes ops _ _ _ c.args.op.now c.in-Insert.id c.in-Insert.parent c.in-Insert.character r.1.0 c.in-Insert.is same new within held.shows accepted,
-      (ops ++ c.args.op.now ∷ [], inserted_held _ _ _ _ c.args.op.now c.in-Insert.id c.in-Insert.parent c.in-Insert.character c.in-Insert.is text size c.in_ok-put.ensures.noted ops held accepted),
+      (ops ++ c.args.op.now ∷ [], inserted_held _ _ _ _ _ c.args.op.now c.in-Insert.id c.in-Insert.parent c.in-Insert.character c.in-Insert.is text size c.in_ok-put.ensures.noted ops held accepted),
     )
 
 pub returns-clause-held : goal.returns-clause-held
@@ -62,7 +62,7 @@ returns-clause-held c =
     let within = room_within _ _ _ _ same r.1.3 in
     let new = c.in_ok-put.ensures.ok r.1.0 r.1.3 in
     let text = placed_text {size = Large} _ _ _ c.in-Insert.id c.in-Insert.parent c.in-Insert.character r.0 r.1.0 r.1.1 r.1.2 within same new in
-    inserted_held _ _ _ _ c.args.op.now c.in-Insert.id c.in-Insert.parent c.in-Insert.character c.in-Insert.is text (put_size _ _ _ _ _ same new within) c.in_ok-put.ensures.noted ops (subst (λ v. Holds v ops) (sym c.self.view_is) h) (c.requires.accepted ops h)
+    inserted_held _ _ _ _ _ c.args.op.now c.in-Insert.id c.in-Insert.parent c.in-Insert.character c.in-Insert.is text (put_size _ _ _ _ _ same new within) c.in_ok-put.ensures.noted ops (subst (λ v. Holds v ops) (sym c.self.view_is) h) (c.requires.accepted ops h)
 
 pub returns-clause-shows : goal.returns-clause-shows
 returns-clause-shows c =

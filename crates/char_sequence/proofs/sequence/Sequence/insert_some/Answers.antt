@@ -49,8 +49,8 @@ invariant_of-self-2 c =
     let count = c.in_ok-count.ensures.count in
     let size : length part ≡ n = let most = count.1 in omega (arith, most, length-take n c.args.characters.now) in
     let some : 0 < length part = let least = count.0 in omega (arith, least, size) in
-    let after = run_placed_held _ _ _ _ _ c.args.id c.args.parent part r.0 r.1.0 some r.1.1 r.1.2 within same new (λ ops op node counter k. c.in_ok-count.ensures.noted ops op node k (omega (arith, counter, size))) ops held accepted in
-    (run_few _ _ ops c.args.id c.args.parent part after accepted, run_bytes ops _ _ _ c.args.id c.args.parent part r.1.0 within same new held.shows accepted, (ops ++ inserts_from c.args.id c.args.parent part, after))
+    let after = run_placed_held _ _ _ _ _ _ c.args.id c.args.parent part r.0 r.1.0 some r.1.1 r.1.2 within same new (λ ops op node counter k. c.in_ok-count.ensures.noted ops op node k (omega (arith, counter, size))) ops held accepted in
+    (run_few _ _ _ ops c.args.id c.args.parent part after accepted, run_bytes ops _ _ _ c.args.id c.args.parent part r.1.0 within same new held.shows accepted, (ops ++ inserts_from c.args.id c.args.parent part, after))
 
 pub returns-clause-held : goal.returns-clause-held
 returns-clause-held c =
@@ -65,7 +65,7 @@ returns-clause-held c =
     let count = c.in_ok-count.ensures.count in
     let size : length part ≡ n = let most = count.1 in omega (arith, most, length-take n c.args.characters.now) in
     let some : 0 < length part = let least = count.0 in omega (arith, least, size) in
-    run_placed_held _ _ _ _ _ c.args.id c.args.parent part r.0 r.1.0 some r.1.1 r.1.2 within same new (λ ops op node counter k. c.in_ok-count.ensures.noted ops op node k (omega (arith, counter, size))) ops (subst (λ v. Holds v ops) (sym c.self.view_is) h) accepted
+    run_placed_held _ _ _ _ _ _ c.args.id c.args.parent part r.0 r.1.0 some r.1.1 r.1.2 within same new (λ ops op node counter k. c.in_ok-count.ensures.noted ops op node k (omega (arith, counter, size))) ops (subst (λ v. Holds v ops) (sym c.self.view_is) h) accepted
 
 pub returns-clause-shows : goal.returns-clause-shows
 returns-clause-shows c =
