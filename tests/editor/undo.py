@@ -258,9 +258,9 @@ def try_rounds(hub, editors, rng, rounds, operations):
                   f"{time.monotonic() - begun:.0f} s", flush=True)
 
 
-def try_day(hub, editors, rng, hours, keys):
+def try_day(hub, editors, rng, size, hours, keys):
     """A day of writing, while another one corrects; at each hour all is selected, deleted and put back."""
-    with place(hub, editors[:2], "--size", "large") as here:
+    with place(hub, editors[:2], "--size", size.name) as here:
         editor, other = here.editors
         for hour in range(hours):
             editor.do("select(1e9); await paste(arguments[0])", f"Hour {hour}.\n" + in_lines(keys))
@@ -276,7 +276,7 @@ def try_day(hub, editors, rng, hours, keys):
             here.compare()
             assert characters(here) == used and version(here) <= begun + 4, (version(here) - begun, used - characters(here))
         count = here.editors[0].run("return [hub.replica.characters.size, hub.replica.visible.length]")
-        print(f"a day of {hours} hours: {version(here)} versions, {count[0]} characters, {count[1]} of them visible; "
+        print(f"a day of {hours} hours, {size.name}: {version(here)} versions, {count[0]} characters, {count[1]} of them visible; "
               "nothing was lost", flush=True)
 
 
@@ -315,4 +315,5 @@ def try_all(hub, editors, rng, is_quick):
     rounds, steps, hours, keys = (2, 100, 4, 300) if is_quick else (40, 400, 12, 4000)
     try_outside(hub, rng, 3 * rounds, 3 * steps)
     try_rounds(hub, editors, rng, rounds, steps)
-    try_day(hub, editors, rng, hours, keys)
+    for size in SIZES:
+        try_day(hub, editors, rng, size, hours, min(keys, size.characters // 24))
