@@ -1,7 +1,7 @@
 -- How far the operations of a change are accepted, where the text may have no room for what they show.
-use Rattle.std.specs.Prelude.{ℕ, ◌+◌, ◌<◌, List, ◌++◌, length, take, unwrap_or, Result, Ok, Err}
+use Rattle.std.specs.Prelude.{ℕ, ◌+◌, ◌<◌, List, ◌++◌, if◌then◌else◌, length, take, unwrap_or, Result, Ok, Err}
 use Rattle.std.specs.List.{filter}
-use Rattle.change_ops.specs.Operations.{is_edit}
+use Rattle.change_ops.specs.Operations.{is_edit, is_revival, bytes_of}
 use Rattle.change_ops.specs.declared.operation.Op.{Op}
 use Rattle.change_ops.specs.declared.size.Size.{Size}
 use Rattle.char_sequence.specs.Held.{Sequence, Holds}
@@ -13,6 +13,10 @@ use Rattle.change_history.specs.declared.refusal.ApplyError.TheVariants as apply
 use Rattle.change_history.specs.Accepted.{AllFollow, IsFirstRefused}
 use Rattle.change_history.specs.Kept.{Keeps, StandAt}
 use Rattle.change_history.specs.Tally.{AreOf, IsTally}
+
+-- how many bytes an operation counts where each revival counts so many: else those of an insert's character
+abbrev pub growth : ℕ → Op → ℕ
+growth revived op = if is_revival op then revived else bytes_of op
 
 -- the sequence is that of all operations, and holds those that are edits
 pub record IsSequenceOf (ops : List Op) (sequence : Sequence) : Type 0 where

@@ -1,18 +1,20 @@
 //! The trial of a change whose characters the visible text may have no room for: its operations are applied in their
 //! order to a copy of the sequence.
-ghost use Rattle.std.specs.Prelude.{◌≡◌, ℕ, ◌+◌, ◌<◌, List, ◌∷◌, ◌++◌, [], true, nat_le, sum_by, MatchOption};
+ghost use Rattle.std.specs.Prelude.{◌≡◌, ℕ, ◌+◌, ◌<◌, ◌≤◌, List, ◌∷◌, ◌++◌, [], true, nat_le, sum_by, MatchOption};
 ghost use Rattle.std.specs.Prelude.{MatchResult, IfOk, length, encode_utf8_all};
 ghost use Rattle.change_ops.specs.Operations.{id_of};
 ghost use Rattle.change_ops.specs.Runs.{inserts_of};
 ghost use Rattle.change_ops.specs.IdRuns.{removals_of, revivals_of};
 ghost use Rattle.change_ops.specs.Lines.{ops_of, ops_of_lines};
 ghost use Rattle.change_ops.specs.declared.operation.Op.{Op};
-ghost use Rattle.char_sequence.specs.Acceptance.{most_growth, Accepts};
+ghost use Rattle.char_sequence.specs.Acceptance.{Accepts};
+ghost use Rattle.char_sequence.specs.Visible.{all_bytes};
 ghost use Rattle.change_history.specs.Kept.{Keeps, AreAllAccepted, IsNotAccepted};
 ghost use Rattle.change_history.specs.Accepted.{MayFollow};
 ghost use Rattle.change_history.specs.Tally.{AreOf, AreShort, IsTally};
 ghost use Rattle.change_ops.specs.declared.size.Size.{Size};
-ghost use Rattle.change_history.specs.Trial.{IsSequenceOf, sequence_of, CanTry, Tries};
+ghost use Rattle.change_ops.specs.declared.size.TheConstants.{BYTE_LIMIT};
+ghost use Rattle.change_history.specs.Trial.{growth, IsSequenceOf, sequence_of, CanTry, Tries};
 
 use crate::parts::Parts;
 use crate::refusal::{ApplyError, SubmitError, at_index};
@@ -26,12 +28,15 @@ use change_ops::size::{BYTE_LIMIT, Size};
 use char_sequence::sequence::Sequence;
 use std::alloc::{AllocError, Global};
 
-/// How many bytes the operation adds to the visible text at most.
-fn growth_of(op: &Op) -> usize
-    ensures { result ≡ most_growth op.now }
+/// The most bytes that a revival adds to the visible text.
+const MOST_REVIVED: usize = 4;
+
+/// How many bytes an operation counts where each revival counts so many.
+fn growth_of(op: &Op, revived: usize) -> usize
+    ensures { result ≡ growth revived op.now }
 {
     match op {
-        Op::Revive { .. } => 4,
+        Op::Revive { .. } => revived,
         Op::Insert { .. } | Op::Remove { .. } => op.byte_count(),
         Op::AddMark { .. } | Op::RemoveMark { .. } => 0,
     }
@@ -63,31 +68,53 @@ fn room_behind_all(room: usize, characters: &[Character]) -> Option<usize>
     Some(left)
 }
 
-/// The room that is left at least behind the operations of a line, in the same way.
-fn room_behind_line(room: usize, line: &Line) -> Option<usize>
-    ensures { MatchOption result (room < sum_by most_growth (ops_of line.now))
-        (λ left. left + sum_by most_growth (ops_of line.now) ≡ room) }
+/// The room that is left behind the operations of a line, in the same way.
+fn room_behind_line(room: usize, revived: usize, line: &Line) -> Option<usize>
+    requires { revived ≤ MOST_REVIVED }
+    ensures { MatchOption result (room < sum_by (growth revived) (ops_of line.now))
+        (λ left. left + sum_by (growth revived) (ops_of line.now) ≡ room) }
 {
     match line {
-        Line::Operation(op) => room_behind(room, growth_of(op)),
+        Line::Operation(op) => room_behind(room, growth_of(op, revived)),
         Line::Run(run) => room_behind_all(room, run.characters()),
         Line::Removals(_) => Some(room),
-        Line::Revivals(run) => room_behind(room, 4 * run.count() as usize),
+        Line::Revivals(run) => room_behind(room, revived * run.count() as usize),
     }
 }
 
-/// Whether so many bytes are room for all characters that the lines may show.
-fn has_room(room: usize, lines: &[Line]) -> bool
-    ensures { result ≡ nat_le (sum_by most_growth (ops_of_lines lines.now)) room }
+/// Whether so many bytes are room for the characters that the lines insert, and for so many bytes of each revival.
+fn has_room(room: usize, revived: usize, lines: &[Line]) -> bool
+    requires { revived ≤ MOST_REVIVED }
+    ensures { result ≡ nat_le (sum_by (growth revived) (ops_of_lines lines.now)) room }
 {
     let mut left = room;
     for line in lines {
-        match room_behind_line(left, line) {
+        match room_behind_line(left, revived, line) {
             Some(behind) => left = behind,
             None => return false,
         }
     }
     true
+}
+
+/// How many bytes all characters have, hidden ones too.
+fn bytes_of_all(sequence: &Sequence) -> usize
+    ensures { result ≡ all_bytes sequence.now.elements }
+{
+    let mut count = 0;
+    for element in sequence.elements() {
+        count += element.character.value().len_utf8();
+    }
+    count
+}
+
+/// Whether all characters, hidden ones too, and those that the lines insert have room in the visible text at once.
+fn has_room_for_all(sequence: &Sequence, lines: &[Line]) -> bool
+    ensures { result ≡ true
+        → all_bytes sequence.now.elements + sum_by (growth 0) (ops_of_lines lines.now) ≤ BYTE_LIMIT }
+{
+    let bytes = bytes_of_all(sequence);
+    bytes <= BYTE_LIMIT && has_room(BYTE_LIMIT - bytes, 0, lines)
 }
 
 /// Whether no operation of the lines lacks room in the visible text, as far as can be told without applying them: a
@@ -96,7 +123,8 @@ pub(crate) fn has_space(parts: &Parts, lines: &[Line]) -> bool
     ensures { (size : Size) (ops : List Op) → Keeps ops parts.now → result ≡ true
         → AreShort size ops (ops_of_lines lines.now) }
 {
-    has_room(BYTE_LIMIT - parts.bytes(), lines)
+    has_room(BYTE_LIMIT - parts.bytes(), MOST_REVIVED, lines)
+        || has_room_for_all(parts.sequence(), lines)
 }
 
 /// What is counted of the operations that were applied and of a peer's own that follow them, with the sequence behind

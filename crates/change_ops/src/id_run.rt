@@ -8,7 +8,7 @@ use crate::operation::Op;
 use std::marker::Model;
 
 /// Consecutive ids of a peer's operations, and as many consecutive ids that they name: 2 to 65,535.
-#[derive(Clone, Copy, PartialEq, Eq)]
+#[derive(Clone, Copy)]
 pub struct IdRun {
     id: OpId,
     first: OpId,

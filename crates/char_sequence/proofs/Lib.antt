@@ -17,6 +17,7 @@ pub mod Parts
 pub mod Reviving
 pub mod Joined
 pub mod TextGrowth
+pub mod AllBytes
 pub mod Naming
 pub mod Chunking
 pub mod Bytes

@@ -49,7 +49,7 @@ still_there (x ∷ xs) (suc i) zero y z g h other = (zero, h)
 still_there (x ∷ xs) (suc i) (suc j) y z g h other = let r = still_there xs i j y z g h other in (suc r.0, r.1)
 
 -- elements with ids of their own, the visible ones of which are among others, have no longer a text than these
-covered : (xs ys : List Element) → ((i j : ℕ) (x y : Element) → i < j → slice_get xs i ≡ Some x → slice_get xs j ≡ Some y → x ≡ y → ⊥) → ((i : ℕ) (x : Element) → slice_get xs i ≡ Some x → x.visible ≡ true → (j : ℕ) × (slice_get ys j ≡ Some x)) → length (visible_text xs) ≤ length (visible_text ys)
+pub covered : (xs ys : List Element) → ((i j : ℕ) (x y : Element) → i < j → slice_get xs i ≡ Some x → slice_get xs j ≡ Some y → x ≡ y → ⊥) → ((i : ℕ) (x : Element) → slice_get xs i ≡ Some x → x.visible ≡ true → (j : ℕ) × (slice_get ys j ≡ Some x)) → length (visible_text xs) ≤ length (visible_text ys)
 covered [] ys apart there = let none = ap length visible_none in omega (arith, none)
 covered (x ∷ xs) ys apart there =
     let whole = bytes_next x xs in
@@ -71,7 +71,7 @@ covered (x ∷ xs) ys apart there =
     (cases_Bool x.visible)
 
 -- ---- the characters that operations may show
-abbrev seen_as : OpId → ℕ → Element
+abbrev pub seen_as : OpId → ℕ → Element
 seen_as x c = record { id = x; character = c; visible = true }
 
 -- elements with the characters that the operations insert and show again, with no more bytes than these may add
@@ -124,7 +124,7 @@ gain_none all op ops g no_insert no_revival = record {
       (cons_cases op ops (Revive v r) h);
 }
 
-same_insert : (x y : OpId) (p q : Option OpId) (c d : ℕ) → Insert x p c ≡ Insert y q d → (x ≡ y) × (c ≡ d)
+pub same_insert : (x y : OpId) (p q : Option OpId) (c d : ℕ) → Insert x p c ≡ Insert y q d → (x ≡ y) × (c ≡ d)
 same_insert x y p q c d e =
     let first : x ≡ y = cc in
     let second : c ≡ d = cc in
@@ -133,7 +133,7 @@ same_insert x y p q c d e =
 insert_no_revival : (x : OpId) (p : Option OpId) (c : ℕ) (v r : OpId) → Insert x p c ≡ Revive v r → ⊥
 insert_no_revival x p c v r e = cc
 
-revive_no_insert : (v r x : OpId) (p : Option OpId) (c : ℕ) → Revive v r ≡ Insert x p c → ⊥
+pub revive_no_insert : (v r x : OpId) (p : Option OpId) (c : ℕ) → Revive v r ≡ Insert x p c → ⊥
 revive_no_insert v r x p c e = cc
 
 same_revival : (v r w s : OpId) → Revive v r ≡ Revive w s → r ≡ s
@@ -142,19 +142,19 @@ same_revival v r w s e = cc
 same_removal : (r x s y : OpId) → Remove r x ≡ Remove s y → x ≡ y
 same_removal r x s y e = cc
 
-remove_no_insert : (r y x : OpId) (p : Option OpId) (c : ℕ) → Remove r y ≡ Insert x p c → ⊥
+pub remove_no_insert : (r y x : OpId) (p : Option OpId) (c : ℕ) → Remove r y ≡ Insert x p c → ⊥
 remove_no_insert r y x p c e = cc
 
 remove_no_revival : (s y v r : OpId) → Remove s y ≡ Revive v r → ⊥
 remove_no_revival s y v r e = cc
 
-mark_no_insert : (id : OpId) (attribute : Attribute) (start end : Anchor) (x : OpId) (p : Option OpId) (c : ℕ) → AddMark id attribute start end ≡ Insert x p c → ⊥
+pub mark_no_insert : (id : OpId) (attribute : Attribute) (start end : Anchor) (x : OpId) (p : Option OpId) (c : ℕ) → AddMark id attribute start end ≡ Insert x p c → ⊥
 mark_no_insert id attribute start end x p c e = cc
 
 mark_no_revival : (id : OpId) (attribute : Attribute) (start end : Anchor) (v r : OpId) → AddMark id attribute start end ≡ Revive v r → ⊥
 mark_no_revival id attribute start end v r e = cc
 
-unmark_no_insert : (id : OpId) (key : Key) (start end : Anchor) (x : OpId) (p : Option OpId) (c : ℕ) → RemoveMark id key start end ≡ Insert x p c → ⊥
+pub unmark_no_insert : (id : OpId) (key : Key) (start end : Anchor) (x : OpId) (p : Option OpId) (c : ℕ) → RemoveMark id key start end ≡ Insert x p c → ⊥
 unmark_no_insert id key start end x p c e = cc
 
 unmark_no_revival : (id : OpId) (key : Key) (start end : Anchor) (v r : OpId) → RemoveMark id key start end ≡ Revive v r → ⊥

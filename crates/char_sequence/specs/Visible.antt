@@ -1,11 +1,16 @@
 -- The visible text of elements (Peritext, CSCW 2022).
-use Rattle.std.specs.Prelude.{◌≡◌, ℕ, ◌+◌, ◌<◌, ◌≤◌, true, List, Some, map, encode_utf8_all, slice_get, slice_range}
+use Rattle.std.specs.Prelude.{◌≡◌, ℕ, ◌+◌, ◌<◌, ◌≤◌, true, List, Some, map, length, slice_get, slice_range}
+use Rattle.std.specs.Prelude.{encode_utf8_all}
 use Rattle.std.specs.List.{filter, count_by}
 use Rattle.char_sequence.specs.declared.sequence.Element.{Element}
 
 -- the visible characters in order, as UTF-8
 unfoldable pub visible_text : List Element → List ℕ
 visible_text es = encode_utf8_all (map (λ e. e.character) (filter (λ e. e.visible) es))
+
+-- how many bytes all characters have, hidden ones too
+abbrev pub all_bytes : List Element → ℕ
+all_bytes es = length (encode_utf8_all (map (λ e. e.character) es))
 
 -- how many of the characters are visible
 abbrev pub visible_count : List Element → ℕ

@@ -278,9 +278,20 @@ impl Chunk {
         ensures { (x : Element) → slice_get self.old index ≡ Some x
             → self.new ≡ set self.old index (record { id = x.id; character = x.character; visible = visible }) }
     {
-        self.items[index].visible = visible;
-        write_text(&self.items, &mut self.text);
-        self.shown = count_visible(&self.items);
+        let mut element = self.items[index];
+        if element.visible == visible {
+            return;
+        }
+        let at = self.text_before(index);
+        element.visible = visible;
+        self.items[index] = element;
+        if visible {
+            write_at(&element, at, &mut self.text);
+            self.shown += 1;
+        } else {
+            self.text.remove(at);
+            self.shown -= 1;
+        }
     }
 
     /// Moves the elements from an index on into a chunk of their own.
