@@ -1,0 +1,4 @@
+pub mod BitsWithin
+pub mod Situations
+pub mod Naming
+pub mod Pairs

@@ -1,0 +1,4 @@
+pub mod Numbers
+pub mod Contents
+pub mod Partners
+pub mod Inclusion
