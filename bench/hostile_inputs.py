@@ -11,6 +11,10 @@ MARKS = 4096
 LARGE = 4
 OPERATIONS = 256
 GREATEST = (1 << 48) - 1
+# The keys of one value, each with the key and value of a mark with a number: the older ones, and those of the third form of changes.
+OLDER = (lambda _: "strong -", lambda _: "em -", lambda _: "code -", lambda at: f"link https://example.org/{at}", lambda at: f"color {at:06x}")
+NEWER = (lambda _: "underline -", lambda _: "strike -", lambda at: f"block heading:{1 + at // 8 % 6}")
+THIRD = ("underline", "strike", "block")
 
 
 class Text(NamedTuple):
@@ -31,7 +35,8 @@ class Text(NamedTuple):
             part = self.marks[start : start + OPERATIONS]
             first = self.characters + 1 + start
             lines = [f"{word} {first + at}@1 {rest}\n" for at, (word, rest) in enumerate(part)]
-            changes.append(f"change2 1 {len(part)}\n" + "".join(lines))
+            form = "change3" if any(rest.startswith(THIRD) for _, rest in part) else "change2"
+            changes.append(f"{form} 1 {len(part)}\n" + "".join(lines))
         return changes
 
     def removed_of(self, number):
@@ -95,6 +100,17 @@ def strong_or_comment(number):
 def one_of_five(number):
     kinds = (strong, lambda _: "em -", lambda at: f"link https://example.org/{at}", color, comment)
     return kinds[number % 5](number)
+
+
+def one_of_five_older(number):
+    """A key of one value that changes of the second form have."""
+    return OLDER[number % len(OLDER)](number)
+
+
+def one_of_eight(number):
+    """A key of one value."""
+    keys = OLDER + NEWER
+    return keys[number % len(keys)](number)
 
 
 def any_kind(turn):

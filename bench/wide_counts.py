@@ -11,6 +11,8 @@ from hostile_counts import MILLION, alone, beside, most_held
 MOST_TIMES, MOST = 10, 60
 # A key in a text near its limit: at most so many instructions, and so many times those of a text of 500 marks.
 A_KEY, KEY_TIMES = 130000, 1.5
+# Marks of eight keys beside as many of five.
+KEYS_TIMES = 1.5
 KIB = 1024
 SPANS = 1024
 # So many changes that show nothing follow one that does not count: what the text and the first need for a while is less than what these keep.
@@ -143,16 +145,20 @@ def wide_changes(hub):
                 yield figure._replace(limit=min(figure.limit, MOST), aim=f"{figure.aim}, and {MOST} million")
 
 
+def of_last_marks(hub, size, text):
+    """Millions of instructions of the last change of a text's marks."""
+    *before, last = text.changes()
+    session = Counted(hub, "--size", size)
+    for change in before:
+        session.ask(change)
+    count = session.count([last])[1]
+    session.end()
+    return count / MILLION
+
+
 def one_anchor(hub):
     for size, times in (("small", 1), ("large", inputs.LARGE)):
-        counts = []
-        for text in (at_one_anchor(inputs.strong, times), spaced(inputs.strong, times)):
-            *before, last = text.mark_changes()
-            session = Counted(hub, "--size", size)
-            for change in text.changes()[: -len(before) - 1] + before:
-                session.ask(change)
-            counts.append(session.count([last])[1] / MILLION)
-            session.end()
+        counts = [of_last_marks(hub, size, text) for text in (at_one_anchor(inputs.strong, times), spaced(inputs.strong, times))]
         yield beside("13", f"{size}: the last 256 of {times * inputs.MARKS:,} marks at one anchor, beside apart", counts[0], counts[1], "million", 2)
 
 
@@ -183,9 +189,9 @@ def kept_by_wide_changes(hub):
     yield beside("15", "two cursors in one change keep, beside two changes", kept(hub, text, one) / KIB, kept(hub, text, two) / KIB, "KiB", 1.5)
 
 
-def of_keys(hub, marks, follows):
+def of_keys(hub, marks, follows, key=inputs.strong):
     """The instructions of a key in a text of so many marks: of keys that follow one another, or with another character between each two."""
-    wide = Wide.of(scattered(inputs.strong, marks))
+    wide = Wide.of(scattered(key, marks))
     middle = wide.text.characters // 2
     places = [middle, *range(wide.counter, wide.counter + 8)] if follows else range(middle, middle + 9)
     typed = wide.typed_apart(places)
@@ -200,6 +206,18 @@ def keys(hub):
             what = f"{kind} at 131,000 characters under {marks:,} marks"
             figure = beside("16", what, counts[-1], counts[0], "", KEY_TIMES)
             yield figure._replace(limit=min(figure.limit, A_KEY), aim=f"{figure.aim} those of 500, and {A_KEY:,}")
+
+
+def eight_keys(hub):
+    """Marks of all keys of one value, beside as many of the five that changes of the second form have."""
+    most = inputs.LARGE * inputs.MARKS - 8
+    counts = []
+    for key in (inputs.one_of_eight, inputs.one_of_five_older):
+        wide = Wide.of(scattered(key, most))
+        typed = of_keys(hub, most, True, key) / MILLION
+        counts.append((typed, of_last_marks(hub, "large", wide.text), counted_after(hub, "large", wide.text, *BESIDE[BOLD](wide))))
+    for what, value, other in zip(("a key", "the last marks", "all of it is made em"), *counts):
+        yield beside("21", f"large, {most:,} marks of eight keys, beside those of five: {what}", value, other, "million", KEYS_TIMES)
 
 
 def shown_after(hub):
@@ -217,5 +235,6 @@ ROWS = {
     "two_cursors": two_cursors,
     "kept_by_wide_changes": kept_by_wide_changes,
     "keys": keys,
+    "eight_keys": eight_keys,
     "shown_after": shown_after,
 }

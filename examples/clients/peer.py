@@ -15,7 +15,8 @@ of a node are used up. Commands are lines:
     insert PLACE TEXT               inserts a text at a place: 0 is before the first character
     remove FIRST END                removes the characters from place FIRST up to place END
     restore                         takes back the last `remove` that isn't, and what others removed of the same
-    mark FIRST END KEY [VALUE]      makes them strong, em, code, comment:N, link (VALUE: its target) or color (VALUE: rrggbb)
+    mark FIRST END KEY [VALUE]      makes them strong, em, code, underline, strike, comment:N, link (VALUE: its target), color
+                                    (VALUE: rrggbb) or, where they are whole lines, block (VALUE: their kind)
     unmark FIRST END KEY            takes such a key from them
     wait VERSION                    waits until the hub has that version
 
@@ -38,7 +39,22 @@ CONNECTS, WAITS, PAUSE = 120, 20, 0.5
 GREATEST = (1 << 48) - 1
 AT_ONCE = 64
 LONGEST_LINE = 1 << 22
-KEYS = ["strong", "em", "code", "link", "color", "comment"]
+
+
+class Key(NamedTuple):
+    """A key of one value: the form of changes that knows it, what its value may be, and whether what is typed at a mark's end is in it."""
+    form: str
+    value: str
+    grows: bool
+
+
+NOTHING, KIND = "-", "heading:[1-6]|(bullet|number):[0-7]|task:[0-7]:(open|done)|quote|pre|rule"
+KEYS = {"strong": Key("change", NOTHING, True), "em": Key("change", NOTHING, True), "code": Key("change2", NOTHING, True),
+        "link": Key("change", "[!-~]{1,1024}", False), "color": Key("change", "[0-9a-f]{6}", True),
+        "underline": Key("change3", NOTHING, True), "strike": Key("change3", NOTHING, True), "block": Key("change3", KIND, False)}
+# Comments have numbers. As a format is printed, keys of the third form stand behind them.
+COMMENT = Key("change", NOTHING, False)
+ORDER = ["strong", "em", "code", "link", "color", "comment", "underline", "strike", "block"]
 
 
 class Refused(Exception):
@@ -189,13 +205,17 @@ def first_id(change):
     return id_in(change[1].split(" ")[1])
 
 
+def key_of(key):
+    return KEYS.get(key, COMMENT)
+
+
 def format_text(format):
     """A format as a span's line has it."""
     def rank(key):
         name, _, number = key.partition(":")
-        return KEYS.index(name), int(number or 0)
+        return ORDER.index(name), int(number or 0)
 
-    words = [f"{key}={format[key]}" if key in ("link", "color") else key for key in sorted(format, key=rank)]
+    words = [key if key_of(key).value == NOTHING else f"{key}={format[key]}" for key in sorted(format, key=rank)]
     return ",".join(words) or "plain"
 
 
@@ -431,15 +451,15 @@ def check_text(text):
 
 def check_key(key):
     number = re.fullmatch("comment:([1-9][0-9]{0,9})", key)
-    if key not in KEYS[:-1] and not (number and int(number[1]) < 1 << 32):
-        raise ValueError("a key is strong, em, code, link, color, or comment: and a number from 1 to 4294967295")
+    if key not in KEYS and not (number and int(number[1]) < 1 << 32):
+        raise ValueError(f"a key is {', '.join(KEYS)}, or comment: and a number from 1 to 4294967295")
 
 
 def check_value(key, value):
     """A wrong value isn't sent: a line feed in it would be the end of its line."""
-    form = {"link": "[!-~]{1,1024}", "color": "[0-9a-f]{6}"}.get(key, "-")
-    if not re.fullmatch(form, value):
-        raise ValueError("a link has 1 to 1024 bytes without spaces, a color six of 0-9a-f, and other keys have no value")
+    if not re.fullmatch(key_of(key).value, value):
+        raise ValueError("a link has 1 to 1024 bytes without spaces, a color six of 0-9a-f, a block heading:1 to 6, bullet:0 to 7, number:0 to 7,"
+                         " task:0 to 7 and :open or :done, quote, pre or rule, and other keys have no value")
 
 
 class Peer:
@@ -597,7 +617,7 @@ class Peer:
         self.removed.pop()
 
     def mark(self, first, end, key, value="-"):
-        """Adds a key to a range: strong, em, code, link, color or comment:N."""
+        """Adds a key to a range: one of KEYS, or comment:N."""
         covered = self.range(first, end)
         self.mark_between(covered[0], covered[-1], key, value)
 
@@ -693,7 +713,7 @@ class Peer:
         def change(node, newest):
             own = f"{above(newest, anchors + below)}@{node}"
             line = f"u {own} {key} {start} {end}" if value is None else f"m {own} {key} {value} {start} {end}"
-            return [f"change2 {node} 1" if key == "code" else f"change {node} 1", line]
+            return [f"{key_of(key).form} {node} 1", line]
 
         if not (held and self.is_held(first, last, held)):
             self.submit(change)
@@ -708,10 +728,15 @@ class Peer:
         return all(any(start <= at and at + 1 <= end for start, end in ranges) for at in covered)
 
     def ends_of_mark(self, first, last, key):
-        """The anchors of a mark. One that expands ends before the next character, and what is typed there is in it; links and comments
-        end behind their last character. An anchor that has the greatest counter can't be named: then it is the next best."""
+        """The anchors of a mark. One that grows ends before the next character, and what is typed there is in it; others end behind
+        their last character. A line's kind begins behind the line feed in front of it, and the last line's ends with the text. An anchor
+        that has the greatest counter can't be named: then it is the next best."""
         starts, ends = list(self.replica.anchors_before(first)), list(self.replica.anchors_behind(last))
-        if key != "link" and not key.startswith("comment:"):
+        if key == "block":
+            starts.reverse()
+            if ends[-1] == "$" and self.replica.characters[last] != "\n":
+                ends.reverse()
+        elif key_of(key).grows:
             ends[:2] = ends[1::-1]
         found = [next(filter(can_be_named, anchors), None) for anchors in (starts, ends)]
         if None in found:

@@ -2,7 +2,7 @@
 """Tries `hub serve --read` with peers of peer.py: try_peer.py [HUB] [SEED]
 
 HUB is the executable, by default $HUB or `hub`. Peers type at once at random and all end with the hub's own text and formatting; the
-spans that `hub spans` prints of all accepted changes are what `show` shows; what each line of reading refuses is tried, and that watch.py ends
+spans that `hub spans` prints of all accepted changes are what `show3` shows; what each line of reading refuses is tried, and that watch.py ends
 once the hub is full."""
 import os
 import pathlib
@@ -12,14 +12,14 @@ import sys
 import threading
 from concurrent.futures import ThreadPoolExecutor
 
-from peer import Peer, Refused, Replica, Session, changes_in
+from peer import KEYS, Peer, Refused, Replica, Session, changes_in
 
 HUB = sys.argv[1] if len(sys.argv) > 1 else os.environ.get("HUB", "hub")
 SEED = int(sys.argv[2]) if len(sys.argv) > 2 else random.randrange(1 << 32)
 ROUNDS = 60
 PIECES = ["a", "b c", "Lunch at 12?", "\n", "\\", "\\n", "\r", "\t", "\x01", "\x85", "\u2028", "é", "é", "€", "\ud7ff", "\ue000",
           "\ufeff", "\U0001f600", "\U0010ffff", "no 1", "ok 1", "x" * 300]
-VALUES = {"link": ["https://a.b/?q=\\n", "-", "x"], "color": ["0000ff", "cc0000"]}
+VALUES = {"link": ["https://a.b/?q=\\n", "-", "x"], "color": ["0000ff", "cc0000"], "block": ["heading:1", "bullet:7", "task:0:done", "rule"]}
 
 
 class Hub:
@@ -42,9 +42,9 @@ class Hub:
 
 def shown(session, version, at_once):
     """The span lines of a version, asked for `at_once` at a time."""
-    lines, count = session.ask(f"show {version} 0 {at_once}")
+    lines, count = session.ask(f"show3 {version} 0 {at_once}")
     while len(lines) < count:
-        some, _ = session.ask(f"show {version} {len(lines)} {at_once}")
+        some, _ = session.ask(f"show3 {version} {len(lines)} {at_once}")
         assert some
         lines += some
     assert all(line.startswith("span ") for line in lines)
@@ -70,7 +70,7 @@ def edit(peer, rng):
     end = min(length, first + rng.choice([1, 1, 3, 8, 290]))
     if what == "remove":
         return peer.remove(first, end)
-    key = rng.choice(["strong", "em", "code", "link", "color", "comment:1", "comment:4294967295"])
+    key = rng.choice([*KEYS, "comment:1", "comment:4294967295"])
     if what == "mark":
         return peer.mark(first, end, key, rng.choice(VALUES.get(key, ["-"])))
     return peer.unmark(first, end, key)
@@ -158,27 +158,53 @@ def try_words(peer):
     before = peer.replica.version
     for wrong in [lambda: peer.insert(0, "\0"), lambda: peer.insert(0, "a\udc80"), lambda: peer.insert(9, "a"), lambda: peer.remove(2, 2),
                   lambda: peer.mark(0, 1, "link", "a b"), lambda: peer.mark(0, 1, "link", "a\nlatest"), lambda: peer.mark(0, 1, "bold"),
-                  lambda: peer.mark(0, 1, "color", "red"), lambda: peer.mark(0, 1, "comment:0"), lambda: peer.mark(0, 1, "em\n")]:
+                  lambda: peer.mark(0, 1, "color", "red"), lambda: peer.mark(0, 1, "comment:0"), lambda: peer.mark(0, 1, "em\n"),
+                  lambda: peer.mark(0, 1, "block"), lambda: peer.mark(0, 1, "block", "heading:7"), lambda: peer.mark(0, 1, "strike", "x")]:
         try:
             wrong()
         except ValueError:
             continue
         raise AssertionError("done")
     assert not peer.follow() and peer.replica.version == before
-    for end in ("strong", "em", "code", "color"):
+    for end in ("strong", "em", "code", "color", "underline", "strike"):
         peer.mark(0, 1, end, "0000ff" if end == "color" else "-")
     peer.mark(0, 2, "link", "https://a.b")
     peer.mark(1, 2, "comment:5")
     peer.insert(1, "x")
     peer.insert(3, "y")
-    want = ["0 strong,em,code,link=https://a.b,color=0000ff ax", "1 strong,link=https://a.b,comment:5 b", "2 strong y", "3 plain c\\\\"]
+    want = ["0 strong,em,code,link=https://a.b,color=0000ff,underline,strike ax", "1 strong,link=https://a.b,comment:5 b", "2 strong y", "3 plain c\\\\"]
     assert peer.replica.span_lines() == want, peer.replica.span_lines()
     peer.remove(2, 3)
     peer.insert(2, "z")
     try_restoring(peer)
-    want = ["0 strong,em,code,link=https://a.b,color=0000ff ax", "1 strong zy", "2 plain c\\\\"]
+    want = ["0 strong,em,code,link=https://a.b,color=0000ff,underline,strike ax", "1 strong zy", "2 plain c\\\\"]
     assert peer.replica.span_lines() == want, peer.replica.span_lines()
     peer.close()
+
+
+def try_kinds():
+    """The kinds of lines, on a hub of their own."""
+    with Hub(1, "--read") as hub:
+        peer = Peer(hub.port, 1)
+        try_lines(peer)
+        peer.close()
+
+
+def try_lines(peer):
+    """Each line of three is given a kind. What is typed at a line's front is in its kind, also where the line's first characters were
+    removed, and so is what is typed at the text's end. A removed line feed leaves both lines' kinds."""
+    peer.insert(0, "ab\ncd\nef")
+    peer.remove(3, 4)
+    for first, end, kind in [(0, 3, "heading:1"), (3, 5, "bullet:0"), (5, 7, "quote")]:
+        peer.mark(first, end, "block", kind)
+    for place, text in [(0, "x"), (4, "y"), (len("xab\nyd\nef"), "z")]:
+        peer.insert(place, text)
+    want = ["0 block=heading:1 xab\\n", "1 block=bullet:0 yd\\n", "2 block=quote efz"]
+    assert peer.replica.span_lines() == want, peer.replica.span_lines()
+    peer.remove(3, 4)
+    peer.unmark(6, 9, "block")
+    want = ["0 block=heading:1 xab", "1 block=bullet:0 yd\\n", "2 plain efz"]
+    assert peer.replica.span_lines() == want, peer.replica.span_lines()
 
 
 def try_restoring(peer):
@@ -245,6 +271,7 @@ def try_watching():
 def main():
     print(f"seed {SEED}")
     try_replies()
+    try_kinds()
     try_command()
     try_watching()
     try_without_reading()

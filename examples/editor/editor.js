@@ -97,9 +97,12 @@ function attempt(act) {
 
 const COMMANDS = {
   strong: () => toggle("strong"), em: () => toggle("em"), code: () => toggle("code"),
+  underline: () => toggle("underline"), strike: () => toggle("strike"),
   link: askLink, comment, undo: () => hub.undo(), redo: () => hub.redo(),
 };
-const KEYS = { b: "strong", i: "em", e: "code", k: "link", y: "redo", z: "undo", Z: "redo" };
+const KEYS = {
+  b: "strong", i: "em", e: "code", u: "underline", X: "strike", k: "link", y: "redo", z: "undo", Z: "redo",
+};
 
 function run(name) {
   attempt(COMMANDS[name]);

@@ -4,7 +4,7 @@
 import { MEANT, NONE, OPERATIONS, removalsIn } from "./removals.js";
 import { Cannot, Change, Edit, Replica, countOf, meantBy, sizeOf } from "./replica.js";
 
-export { Cannot, Replica, bytesOf, checkMark, escaped, formatOf, textOf } from "./replica.js";
+export { Cannot, KEYS, Replica, bytesOf, checkMark, escaped, formatOf, textOf } from "./replica.js";
 
 // The visible text of a hub of any size has at most so many bytes.
 const VISIBLE_BYTES = 131072;

@@ -1,15 +1,16 @@
-// A ProseMirror document that is a hub's text: a paragraph for each line; strong, em, code, links, colors and comments
-// are marks. What is edited in the view becomes changes of the hub, and what others change becomes transactions, which
-// keep the selection. Undo is the hub's (hub.js): it takes back this page's own changes alone.
+// A ProseMirror document that is a hub's text: a paragraph for each line; strong, em, code, underline, strike, links,
+// colors, comments and the kinds of lines are marks. What is edited in the view becomes changes of the hub, and what
+// others change becomes transactions, which keep the selection. Undo is the hub's (hub.js): it takes back this page's own
+// changes alone.
 
 import { Fragment, Mark, Schema, Slice } from "prosemirror-model";
 import { Plugin, PluginKey, TextSelection } from "prosemirror-state";
 import { AddMarkStep, RemoveMarkStep, ReplaceStep } from "prosemirror-transform";
 import { Decoration, DecorationSet } from "prosemirror-view";
-import { Cannot, bytesOf, formatOf } from "./hub.js";
+import { Cannot, KEYS, bytesOf, formatOf } from "./hub.js";
 import { inGroups } from "./removals.js";
 
-const LINK = /^[!-~]{1,1024}$/, COLOR = /^[0-9a-f]{6}$/, COMMENT = /^[1-9][0-9]{0,9}$/;
+const [LINK, COLOR, KIND] = ["link", "color", "block"].map(key => KEYS.get(key).value), COMMENT = /^[1-9][0-9]{0,9}$/;
 const COMPOSED = 60, QUIET = 5000, HERE = 60000;
 
 /** Only http and https are followed. */
@@ -61,6 +62,13 @@ export const schema = new Schema({
     strong: { parseDOM: [{ tag: "strong" }, { tag: "b" }], toDOM: () => ["strong", 0] },
     em: { parseDOM: [{ tag: "em" }, { tag: "i" }], toDOM: () => ["em", 0] },
     code: { parseDOM: [{ tag: "code" }], toDOM: () => ["code", 0] },
+    underline: { parseDOM: [{ tag: "u" }], toDOM: () => ["u", 0] },
+    strike: { parseDOM: [{ tag: "s" }, { tag: "del" }], toDOM: () => ["s", 0] },
+    block: {
+      attrs: { kind: {} },
+      parseDOM: [{ tag: "span[data-block]", getAttrs: given(KIND, "kind", dom => dom.dataset.block) }],
+      toDOM: ({ attrs: { kind } }) => element("span", { block: kind }, {}),
+    },
   },
 });
 
@@ -70,7 +78,7 @@ const marksOfFormats = new WeakMap(), formatsOfMarks = new WeakMap();
 
 function markOf(key, value) {
   if (key.startsWith("comment:")) return schema.mark("comment", { number: key.slice("comment:".length) });
-  return schema.mark(key, { link: { href: value }, color: { color: value } }[key]);
+  return schema.mark(key, { link: { href: value }, color: { color: value }, block: { kind: value } }[key]);
 }
 
 /** The marks of a format. */
@@ -83,7 +91,7 @@ export function marksOf(format) {
 }
 
 function pairOf({ type: { name }, attrs }) {
-  return name === "comment" ? [`comment:${attrs.number}`, "-"] : [name, attrs.href ?? attrs.color ?? "-"];
+  return name === "comment" ? [`comment:${attrs.number}`, "-"] : [name, attrs.href ?? attrs.color ?? attrs.kind ?? "-"];
 }
 
 /** The format of marks. */
@@ -343,7 +351,8 @@ class Binding {
   }
 
   /** Marks what was marked in the view: a mark for each key and value, from the first character that gets it to the
-   * last, over line feeds and what has it already. */
+   * last, over line feeds and what has it already. The kind of a line is only shown: what is typed or pasted has its
+   * line's. */
   giveFormats(edit) {
     const [from, to] = this.window, keys = new Set(), wants = [];
     for (let at = from; at < to; at += 1) {
@@ -352,6 +361,7 @@ class Binding {
       wants.push({ one, look: isKept ? null : look });
       if (!isKept && look !== one.format) for (const key of [...look.keys, ...one.format.keys]) keys.add(key);
     }
+    keys.delete("block");
     for (const key of keys)
       for (const { first, last, value } of this.runs(wants, key)) edit.mark(first, last, key, value);
   }

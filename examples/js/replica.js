@@ -6,7 +6,21 @@ import {
 } from "./removals.js";
 
 const GREATEST = 2 ** 48 - 1, JOINED = 500;
-const KEYS = ["strong", "em", "code", "link", "color"];
+const NOTHING = /^-$/, KIND = /^(heading:[1-6]|(bullet|number):[0-7]|task:[0-7]:(open|done)|quote|pre|rule)$/;
+
+/** The keys of one value: the form of changes that knows each, what its value may be, and whether what is typed at the end
+ * of a mark is in it. Those of the third form are printed behind comments. */
+export const KEYS = new Map(Object.entries({
+  strong: { form: "change", value: NOTHING, grows: true },
+  em: { form: "change", value: NOTHING, grows: true },
+  code: { form: "change2", value: NOTHING, grows: true },
+  link: { form: "change", value: /^[!-~]{1,1024}$/, grows: false },
+  color: { form: "change", value: /^[0-9a-f]{6}$/, grows: true },
+  underline: { form: "change3", value: NOTHING, grows: true },
+  strike: { form: "change3", value: NOTHING, grows: true },
+  block: { form: "change3", value: KIND, grows: false },
+}));
+const NAMES = [...KEYS.keys()], BEFORE_COMMENTS = 5;
 
 /** An edit that can't be made; its message is for the person. */
 export class Cannot extends Error {}
@@ -74,7 +88,7 @@ class Format {
 
   static of(values) {
     const keys = [...values.keys()].sort((one, other) => rank(one) - rank(other));
-    const words = keys.map(key => key === "link" || key === "color" ? `${key}=${values.get(key)}` : key).join(",");
+    const words = keys.map(key => hasValue(key) ? `${key}=${values.get(key)}` : key).join(",");
     if (!Format.known.has(words)) Format.known.set(words, new Format(words, keys, values));
     return Format.known.get(words);
   }
@@ -88,9 +102,12 @@ class Format {
   get(key) { return this.values.get(key) ?? null; }
 }
 
+const hasValue = key => (KEYS.get(key)?.value ?? NOTHING) !== NOTHING;
+
 function rank(key) {
-  const at = KEYS.indexOf(key);
-  return at < 0 ? KEYS.length + Number(key.slice("comment:".length)) : at;
+  const at = NAMES.indexOf(key);
+  if (at < 0) return BEFORE_COMMENTS + Number(key.slice("comment:".length));
+  return at < BEFORE_COMMENTS ? at : at + 2 ** 32;
 }
 
 export const formatOf = pairs => Format.of(new Map(pairs));
@@ -526,12 +543,17 @@ export class Replica {
   }
 
   /** The anchors of a mark from one character to another. One that grows ends before the next character, and what is
-   * typed there is in it; links and comments end behind their last one. An anchor with the greatest counter can't be
-   * named: then it is the next best. */
+   * typed there is in it; others end behind their last one. The kind of a line begins behind the line feed in front of
+   * it, and the last line's ends with the text. An anchor with the greatest counter can't be named: then it is the next
+   * best. */
   ends(first, last, key) {
-    const ends = [...this.anchorsBehind(last)];
-    if (key !== "link" && !key.startsWith("comment:")) ends.unshift(ends.splice(1, 1)[0]);
-    const found = [[...this.anchorsBefore(first)], ends]
+    const starts = [...this.anchorsBefore(first)], ends = [...this.anchorsBehind(last)];
+    if (KEYS.get(key)?.grows) ends.unshift(ends.splice(1, 1)[0]);
+    if (key === "block") {
+      starts.reverse();
+      if (ends.at(-1).of === null && last.text !== "\n") ends.reverse();
+    }
+    const found = [starts, ends]
       .map(anchors => anchors.find(({ of }) => of === null || of.counter < GREATEST));
     if (found.includes(undefined)) throw new Cannot("No mark can begin and end here: no counter is left.");
     return found;
@@ -568,11 +590,11 @@ export function escaped(text) { return text.replaceAll("\\", "\\\\").replaceAll(
 /** Says why a mark of this key and value can't be sent. */
 export function checkMark(key, value) {
   const number = /^comment:([1-9][0-9]{0,9})$/.exec(key);
-  if (!KEYS.includes(key) && !(number && Number(number[1]) < 2 ** 32))
+  if (!KEYS.has(key) && !(number && Number(number[1]) < 2 ** 32))
     throw new Cannot("a comment has a number from 1 to 4294967295");
-  const forms = { link: /^[!-~]{1,1024}$/, color: /^[0-9a-f]{6}$/ };
-  if (value !== null && !(forms[key] ?? /^-$/).test(value))
-    throw new Cannot("a link has 1 to 1024 bytes without spaces, a color six of 0-9a-f, and other keys have no value");
+  if (value !== null && !(KEYS.get(key)?.value ?? NOTHING).test(value))
+    throw new Cannot("a link has 1 to 1024 bytes without spaces, a color six of 0-9a-f, a line one of the kinds that " +
+      "there are, and other keys have no value");
 }
 
 /** An edit in the making: the operations that go to the hub together, and what takes them back. */
@@ -747,7 +769,7 @@ function joined(before, line) {
 /** The form of a change with such a line. */
 function formOf({ characters, letter, count, mark }) {
   if (letter === "v" || count > 1) return "change3";
-  return characters?.length > 1 || mark?.key === "code" ? "change2" : "change";
+  return characters?.length > 1 ? "change2" : KEYS.get(mark?.key)?.form ?? "change";
 }
 
 /** A change: its operations, where runs that go on in the next one are one. */

@@ -66,10 +66,10 @@ def try_pictures(hub, editor):
 
 
 def try_ends(here):
-    """What is typed at the end of strong, em, code and a color has it, of a link and a comment it hasn't; before them never."""
+    """What is typed at the end of strong, em, code, a line and a color has it, of a link and a comment it hasn't; before them never."""
     editor = here.editors[0]
     for name, format, grows in [("strong", "strong", True), ("em", "em", True), ("code", "code", True), ("color", "color=b42318", True),
-                                ("link", "link=https://a.b/", False), ("comment", None, False)]:
+                                ("underline", "underline", True), ("strike", "strike", True), ("link", "link=https://a.b/", False), ("comment", None, False)]:
         clear(here, "zabc")
         editor.do("find('ab')")
         if name == "link":
@@ -118,6 +118,29 @@ def try_typing(here):
     changes, _ = here.session.ask("changes 0 64")
     removed = [line.split(" ")[2] for line in changes if line.startswith("d ")]
     assert len(removed) == len(set(removed)), "a character is removed twice"
+
+
+def try_kinds(here):
+    """What is typed or pasted in a line has the line's kind, which the page neither gives nor takes away."""
+    editor = here.editors[0]
+    clear(here, "ab\ncd")
+    here.peer.follow()
+    here.peer.mark(0, 3, "block", "heading:1")
+    here.peer.mark(3, 5, "block", "quote")
+    here.compare()
+    editor.do("find('ab', 0)")
+    editor.keys(KEYBOARD, "x")
+    editor.do("find('xab'); select(hubView.state.selection.to)")
+    editor.keys(KEYBOARD, "y")
+    editor.do("find('cd'); select(hubView.state.selection.to); await paste('', '<p><b>z</b></p>')")
+    assert spans(here) == ["block=heading:1 xaby\\n", "block=quote cd", "strong,block=quote z"], spans(here)
+    editor.do("find('xaby'); press('[data-command=underline]'); find('ab'); press('[data-command=strike]')")
+    want = ["underline,block=heading:1 x", "underline,strike,block=heading:1 ab", "underline,block=heading:1 y", "block=heading:1 \\n"]
+    assert spans(here)[:4] == want, spans(here)
+    here.peer.follow()
+    for key in ("block", "underline", "strike"):
+        here.peer.unmark(0, 8, key)
+    assert spans(here) == ["plain xaby\\ncd", "strong z"], spans(here)
 
 
 def try_undo(here):
@@ -536,7 +559,7 @@ def take_pictures(here, folder):
 
 
 def try_all(hub, editors, pictures):
-    parts = [try_ends, try_typing, try_selection, try_undo, try_composition, try_composition_among_others, try_composition_lost,
+    parts = [try_ends, try_typing, try_kinds, try_selection, try_undo, try_composition, try_composition_among_others, try_composition_lost,
              try_clipboard, try_characters, try_hits, try_away]
     with place(hub, editors[:2]) as here:
         for part in parts:

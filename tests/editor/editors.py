@@ -92,7 +92,7 @@ class Place:
         _, latest = self.session.ask("latest")
         want, count = [], 1
         while len(want) < count:
-            lines, count = self.session.ask(f"show {latest} {len(want)} 1024")
+            lines, count = self.session.ask(f"show3 {latest} {len(want)} 1024")
             want += lines
         self.peer.wait(latest)
         assert [f"span {line}" for line in self.peer.replica.span_lines()] == want, "the peer's text is another one"

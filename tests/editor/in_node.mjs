@@ -2,7 +2,7 @@
 // Each edits, undoes and redoes at random, at times without the network or without hearing that a change was accepted. Once all
 // have the same version it prints the lines of each, and what each said, as JSON.
 const [client, url, seed, steps] = process.argv.slice(2);
-const { Cannot, Hub } = await import(client);
+const { Cannot, Hub, KEYS } = await import(client);
 const { WebSocket } = globalThis, events = new EventTarget(), nets = [0, 1, 2].map(() => ({ isOff: false }));
 for (const name of ["addEventListener", "removeEventListener"]) globalThis[name] = (...words) => events[name](...words);
 const pause = time => new Promise(resolve => setTimeout(resolve, time));
@@ -50,12 +50,12 @@ const hubs = nets.map((_, at) => new Hub(`${url}#${at}`, { node: at + 1 })), sai
 for (const hub of hubs) hub.addEventListener("notice", ({ detail }) => said.push(detail));
 await Promise.all(hubs.map(hub => new Promise(resolve => hub.addEventListener("version", resolve, { once: true }))));
 
-const VALUES = { link: "https://a.b/", color: "b42318" };
+const VALUES = { link: "https://a.b/", color: "b42318", block: "task:0:open" };
 
 function change(hub) {
   const { visible, root } = hub.replica, kind = next(), at = Math.floor(next() * (visible.length + 1));
   const end = Math.min(visible.length, at + 1 + Math.floor(next() * 12)), behind = at ? visible[at - 1] : root;
-  const key = pick(["strong", "em", "code", "link", "color", "comment:3"]), value = VALUES[key] ?? "-";
+  const key = pick([...KEYS.keys(), "comment:3"]), value = VALUES[key] ?? "-";
   if (kind < 0.33) hub.edit(edit => edit.insert(behind, pick(["a", "bc", "def ghi ", "\u{1f600}", "\n", "x".repeat(300)])));
   else if (kind < 0.48) hub.edit(edit => edit.remove(visible.slice(at, end)));
   else if (kind < 0.52) hub.edit(edit => edit.remove(visible));

@@ -106,7 +106,7 @@ window.trial = (() => {
     else if (kind < 0.50) { select(at); await key(pick(["Backspace", "Delete"])); }
     else if (kind < 0.57) { select(at, end); await key("Backspace"); }
     else if (kind < 0.61) { select(at); await key("Enter"); }
-    else if (kind < 0.78) { select(at, end); press(pick(["strong", "em", "code", "comment"].map(name => `[data-command=${name}]`))); }
+    else if (kind < 0.78) { select(at, end); press(pick(["strong", "em", "code", "underline", "strike", "comment"].map(name => `[data-command=${name}]`))); }
     else if (kind < 0.82) { select(at, end); press(pick(["b42318", "0a55c4", "1a7f37"].map(name => `[data-color="${name}"]`))); }
     else if (kind < 0.85) { select(at, end); if (!view.state.selection.empty) link(pick(["https://a.b/", "https://c.d/e", ""])); }
     else if (kind < 0.88) { select(at); await paste("one\ntwo"); }
@@ -152,7 +152,7 @@ window.trial = (() => {
   function mend() { window.WebSocket = WebSocket; }
 
   const words = ({ type: { name }, attrs }) => name === "comment" ? `comment:${attrs.number}` :
-    attrs.href ? `link=${attrs.href}` : attrs.color ? `color=${attrs.color}` : name;
+    attrs.href ? `link=${attrs.href}` : attrs.color ? `color=${attrs.color}` : attrs.kind ? `block=${attrs.kind}` : name;
 
   /** What the document has that the replica hasn't, or the DOM that the document hasn't; "" where they are alike. */
   function unlike() {

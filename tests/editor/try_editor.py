@@ -27,7 +27,8 @@ from editors import Editor, place
 
 ROUNDS_A_HUB = 5
 PARTS = ["cases", "limits", "kept", "undo", "node", "store", "rounds", "speed"]
-KEYS = ["strong", "em", "code", "comment:7", "link", "color"]
+KEYS = ["strong", "em", "code", "comment:7", "link", "color", "underline", "strike", "block"]
+VALUES = {"link": "https://p.q/", "color": "b42318", "block": "heading:2"}
 
 
 # Random rounds.
@@ -51,7 +52,7 @@ def peer_at_random(peer, rng, count):
             if rng.random() < 0.25:
                 peer.unmark(first, end, key)
             else:
-                peer.mark(first, end, key, {"link": "https://p.q/", "color": "b42318"}.get(key, "-"))
+                peer.mark(first, end, key, VALUES.get(key, "-"))
         time.sleep(rng.random() * 0.04)
 
 

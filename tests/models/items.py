@@ -8,7 +8,8 @@ from machine import Machine, context
 COLORS = ["000000", "0000ff", "202020", "ffff00", "ffffff"]
 LINKS = ["x", "!~", "https://a.b", "https://example.org/", "https://www.example.org/a?b", "http://example.com/", "l" * 40]
 LETTERS = "aabbcdehorst  ??$.\n\\TODO/:éß€一😀"
-KEYS = ["strong", "em", "code", "link", "color", "color", "comment", "comment"]
+KINDS = ["heading:1", "bullet:0", "number:7", "task:0:open", "quote", "rule"]
+KEYS = [*text.KEYS, "color", "comment", "comment"]
 
 
 def lent(spans, number):
@@ -65,6 +66,13 @@ class Items(text.Session):
 
 # Edits.
 
+def form_of(ops):
+    """The first form of changes that has a line of these operations."""
+    if ops[0][0] in "mu":
+        return text.form_of_key(ops[0][2][0])
+    return 3 if ops[0][0] == "v" else 2 if len(ops) > 1 else 1
+
+
 class Editor:
     """Changes of three peers that know all of a text, whatever was accepted of it."""
 
@@ -110,7 +118,7 @@ class Editor:
         return before, behind
 
     def value(self, key):
-        return self.rng.choice({"color": COLORS, "link": LINKS}.get(key, ["-"]))
+        return self.rng.choice({"color": COLORS, "link": LINKS, "block": KINDS}.get(key, ["-"]))
 
     def marked(self, own, there):
         """A mark, a mark over an earlier one's place, or the removal of one, so that its spans join again."""
@@ -146,11 +154,8 @@ class Editor:
         return self.spelled(own[1], lines)
 
     def spelled(self, node, lines):
-        """Revivals are of the third form, runs of characters and the key `code` of the second."""
-        if any(ops[0][0] == "v" for ops in lines):
-            return text.change_lines(3, node, lines)
-        is_second = any(len(ops) > 1 or ops[0][0] in "mu" and ops[0][2][0] == "code" for ops in lines)
-        return text.change_lines(2 if is_second or self.rng.random() < 0.5 else 1, node, lines)
+        """A change of a form that has all of its lines."""
+        return text.change_lines(max(self.rng.choice([1, 2]), *map(form_of, lines)), node, lines)
 
     def stale(self):
         """A change whose counter was used."""

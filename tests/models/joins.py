@@ -119,9 +119,9 @@ def changes_of(history):
     return [Change(made.form, made.node, made.written()[1:], sum(map(count_of, made.lines)), sum(map(len, made.lines))) for made in history]
 
 
-def revived_history(rng):
+def revived_history(rng, has_all_keys=True):
     """Random changes with removals that are taken back."""
-    return changes_of(history_of_revivals(rng, rng.randrange(1, 40))[0])
+    return changes_of(history_of_revivals(rng, rng.randrange(1, 40), has_all_keys)[0])
 
 
 def whole(changes):
@@ -155,7 +155,7 @@ def main():
     cases.add("join-bad-line", ["join"], ["refused 40 BadLine change 2 line 1"], 1, lines=(first + "change 1  1\n").splitlines())
     cases.add("join-truncated", ["join"], ["refused 41 Truncated change 2"], 1, lines=(first + "change 1 1\n").splitlines())
     for number in range(1, 5):
-        changes = revived_history(rng)
+        changes = revived_history(rng, False)
         cases.add(f"join-revivals-{number}", ["join"], whole(joined(changes)).splitlines(), lines=whole(changes).splitlines())
     letters = "change2 1 1\nr 1@1 - 3 61 62 63\n"
     forms = letters + "change 1 1\nd 4@1 2@1\nchange3 1 2\nv 5@1 4@1\nd 6@1 1@1 3\nchange 1 1\ni 9@1 - 64\n"

@@ -94,8 +94,9 @@ class Made(NamedTuple):
 class Reviver(Writer):
     """Peers of which each knows what came up to some change, and what it made itself; they remove, take back and remove again."""
 
-    def __init__(self, rng, size="small"):
+    def __init__(self, rng, size="small", has_all_keys=True):
         super().__init__(rng)
+        self.has_all_keys = has_all_keys
         self.text, self.nodes = Text(size), rng.sample([1, 2, 3, 300, 65535], rng.choice([1, 2, 2, 3, 5]))
         self.seen, self.arrived, self.edits = dict.fromkeys(self.nodes, 0), {}, collections.defaultdict(list)
         self.is_late = rng.choice([0, 0.3, 0.6])
@@ -165,7 +166,7 @@ class Reviver(Writer):
         return made
 
     def line(self, form, node, last, known):
-        return super().line(min(form, 2), node, last, known)
+        return super().line(form if self.has_all_keys else min(form, 2), node, last, known)
 
     def spoiled_line(self, form, line):
         """The line with an id that isn't a removal's, one that isn't there, a counter that is too low, or a run that is too long."""
@@ -188,9 +189,9 @@ class Reviver(Writer):
         return made._replace(lines=made.lines[:at] + others + made.lines[at + 1 :])
 
 
-def random_history(rng, changes):
-    """The changes of a history, which are all accepted, and what made them."""
-    writer = Reviver(rng)
+def random_history(rng, changes, has_all_keys=True):
+    """The changes of a history, which are all accepted, and what made them; all keys, or those that the second form has."""
+    writer = Reviver(rng, has_all_keys=has_all_keys)
     return [writer.take(writer.made()) for _ in range(changes)], writer
 
 
@@ -364,24 +365,28 @@ def full(cases):
         sys.exit("the full text is answered otherwise by the model")
 
 
-def histories(cases, rng):
-    cases.heading("Random histories with removals that are taken back, each in two orders. The printed spans were worked out by")
+def histories(cases, rng, name, count):
+    """Cases `history-of-NAME-..`: of all keys, or of revivals with the keys that the second form has."""
+    what = "marks of all keys" if name == "all-keys" else "removals that are taken back"
+    cases.heading(f"Random histories with {what}, each in two orders. The printed spans were worked out by")
     cases.heading("tests/models/revivals.py.")
-    for at in range(1, 17):
-        history, writer = random_history(rng, rng.randint(4, 14))
+    for at in range(1, count + 1):
+        history, writer = random_history(rng, rng.randint(4, 14), name == "all-keys")
         want = shown_by([op for made in history for op in made.ops()])
         for order, lines in (("", written(history)), ("-in-another-order", written(another_order(rng, history)))):
-            worked(cases, f"history-of-revivals-{at}{order}", lines, want)
+            worked(cases, f"history-of-{name}-{at}{order}", lines, want)
         changes = [*history, writer.spoiled_change(writer.made())]
         lines, status = spans_of(input_of(written(changes)))
         if status:
-            cases.add(f"history-of-revivals-{at}-refused", ["spans"], lines, status, lines=written(changes))
+            cases.add(f"history-of-{name}-{at}-refused", ["spans"], lines, status, lines=written(changes))
 
 
-def random_sessions(cases, rng):
+def random_sessions(cases, rng, name, count):
+    """Cases `session-of-NAME-..`, as `histories` has them."""
+    has_all_keys = name == "all-keys"
     cases.heading("Sessions of such histories: each version is shown, what was accepted is told again, and a program reads all numbers.")
-    for at in range(1, 7):
-        writer, lines = Reviver(rng), [f"sub 1024 {text.READ_ALL}"]
+    for at in range(1, count + 1):
+        writer, lines = Reviver(rng, has_all_keys=has_all_keys), [f"sub 1024 {text.READ_ALL}"]
         for _ in range(rng.randint(4, 9)):
             made = writer.made()
             if rng.random() < 0.25:
@@ -391,8 +396,9 @@ def random_sessions(cases, rng):
             except Refused:
                 pass
             lines += [*made.written(), f"show {writer.text.changes} 0 1024"]
+            lines += [f"show3 {writer.text.changes} 0 1024"] * has_all_keys
         lines += ["changes 0 64", "left", "pull 0 1024", "stats"]
-        cases.add(f"session-of-revivals-{at}", ["replay", "--read"], Session(input_of(lines), True).replies(), lines=lines)
+        cases.add(f"session-of-{name}-{at}", ["replay", "--read"], Session(input_of(lines), True).replies(), lines=lines)
 
 
 def write_cases(folder):
@@ -401,8 +407,8 @@ def write_cases(folder):
     refusals(cases)
     sessions(cases)
     full(cases)
-    histories(cases, random.Random(2030))
-    random_sessions(cases, random.Random(2031))
+    histories(cases, random.Random(2030), "revivals", 16)
+    random_sessions(cases, random.Random(2031), "revivals", 6)
     cases.write(folder, "revivals")
 
 

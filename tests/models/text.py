@@ -15,6 +15,7 @@ import pathlib
 import random
 import re
 import sys
+from typing import NamedTuple
 
 from cases import Cases
 from machine import run, slot
@@ -80,9 +81,29 @@ def code_in(word):
     return number_in(word, 16)
 
 
+class Key(NamedTuple):
+    """A key of one value: the first form of changes that has it, what its value may be, its bit among a context's flags."""
+    form: int
+    values: str
+    flag: int
+
+
+NOTHING, KIND = "-", "heading:[1-6]|(bullet|number):[0-7]|task:[0-7]:(open|done)|quote|pre|rule"
+KEYS = {"strong": Key(1, NOTHING, 1), "em": Key(1, NOTHING, 2), "code": Key(2, NOTHING, 32), "link": Key(1, "[!-~]+", 4),
+        "color": Key(1, "[0-9a-f]{6}", 8), "underline": Key(3, NOTHING, 0), "strike": Key(3, NOTHING, 0), "block": Key(3, KIND, 0)}
+# How a format is printed. A session that doesn't ask for them is not told the keys of the third form.
+ORDER = ["strong", "em", "code", "link", "color", "comment", "underline", "strike", "block"]
+FLAG_BITS = {"comment": 16, **{name: key.flag for name, key in KEYS.items()}}
+
+
+def form_of_key(name):
+    """The first form of changes that has a key."""
+    return 1 if name == "comment" else KEYS[name].form
+
+
 def key_in(form, word):
     """A key: its name, and a comment's number."""
-    if word in ("strong", "em", "link", "color") or form > 1 and word == "code":
+    if word in KEYS and KEYS[word].form <= form:
         return word, None
     if not word.startswith("comment:"):
         raise Refused(40)
@@ -90,13 +111,7 @@ def key_in(form, word):
 
 
 def value_in(key, word):
-    if key[0] == "link":
-        right = word and all("!" <= c <= "~" for c in word)
-    elif key[0] == "color":
-        right = re.fullmatch("[0-9a-f]{6}", word)
-    else:
-        right = word == "-"
-    if not right:
+    if not re.fullmatch(NOTHING if key[0] == "comment" else KEYS[key[0]].values, word):
         raise Refused(40)
     return word
 
@@ -379,19 +394,19 @@ class Text:
         return out
 
 
-ORDER = ["strong", "em", "code", "link", "color", "comment"]
-
-
-def format_text(found):
+def format_text(found, form=3):
+    """A format as one is told it who knows the keys of the forms up to this one."""
     parts = []
     for key, number in sorted(found, key=lambda k: (ORDER.index(k[0]), k[1] or 0)):
+        if form_of_key(key) > form:
+            continue
         text = f"{key}:{number}" if key == "comment" else key
         parts.append(text if found[key, number] == "-" and key != "link" else f"{text}={found[key, number]}")
     return ",".join(parts) or "plain"
 
 
-def lines_of(spans):
-    return [f"{index} {format_text(found)} " + span.replace("\\", "\\\\").replace("\n", "\\n")
+def lines_of(spans, form=3):
+    return [f"{index} {format_text(found, form)} " + span.replace("\\", "\\\\").replace("\n", "\\n")
             for index, (span, found) in enumerate(spans)]
 
 
@@ -427,7 +442,6 @@ READ_ALL = (slot(0xb7, 0) + b"".join(slot(0x27, 0, 0, 0, 31) + slot(opcode, 2, 1
                                      for opcode, offset in [(0x61, at) for at in (16, 20, 24, 28, 32, 36, 40, 44)] + [(0x79, 48)])
             + slot(0x95)).hex()
 PROGRAMS = {"b7000000010000009500000000000000", "b7000000020000009500000000000000", FLAGS, CHARACTERS_OF, STRONG, READ_ALL}
-FLAG_BITS = {"strong": 1, "em": 2, "link": 4, "color": 8, "comment": 16, "code": 32}
 
 
 class Foreign(Exception):
@@ -561,10 +575,10 @@ class Session:
             raise Refused(55)
         return int(number)
 
-    def show(self, number, first, count):
+    def show(self, is_told_all, number, first, count):
         if not 1 <= number_of(count) <= 1024 or number_of(number) < 0 or number_of(first) < 0:
             raise Refused(60)
-        spans = lines_of(self.versions[self.at_version(number)])
+        spans = lines_of(self.versions[self.at_version(number)], 3 if is_told_all else 2)
         return ["span " + line for line in spans[int(first):int(first) + int(count)]] + [f"ok spans {len(spans)}"]
 
     def changes(self, first, count):
@@ -620,7 +634,7 @@ class Session:
         forms = [("sub[23]? %s ([^ ]+)(?: from %s)?" % (number, number), self.subscribe),
                  ("pull %s %s" % (number, number), self.pull), ("close %s" % number, self.close)]
         if self.reads:
-            forms += [("latest", self.latest), ("left", self.left), ("stats", self.stats), ("show %s %s %s" % (number, number, number), self.show),
+            forms += [("latest", self.latest), ("left", self.left), ("stats", self.stats), ("show(3?) %s %s %s" % (number, number, number), self.show),
                       ("changes %s %s" % (number, number), self.changes), ("newest %s" % number, self.newest)]
         for form, act in forms:
             found = re.fullmatch(form, line.decode("latin-1"))
@@ -771,7 +785,11 @@ def check_rows(folders):
 # Random cases.
 
 CODES = [0x61, 0x62, 0x63, 0x7a, 0x20, 0x5c, 0xa, 0xe9, 0x20ac, 0x1f600, 0x10ffff]
-VALUES = {"link": ["x", "https://a.b/?q=\\"], "color": ["0000ff", "00ff00", "000000"]}
+VALUES = {"link": ["x", "https://a.b/?q=\\"], "color": ["0000ff", "00ff00", "000000"],
+          "block": ["heading:1", "heading:6", "bullet:0", "bullet:7", "number:3", "task:0:open", "task:0:done", "quote", "pre", "rule"]}
+# Of which keys random marks of each form are.
+EARLY = ["strong", "em", "link", "color", "comment", "comment"]
+MARKED = {1: EARLY, 2: EARLY + ["code"] * 4, 3: [*KEYS, "comment", "block", "block"]}
 
 
 def name_of(own):
@@ -813,8 +831,7 @@ class Writer:
 
     def marked(self, form, known):
         """What a mark, or a removal of one, says behind its id."""
-        rng, keys = self.rng, ["strong", "em", "link", "color", "comment", "comment"] + ["code"] * 4 * (form == 2)
-        key = rng.choice(keys)
+        rng, key = self.rng, self.rng.choice(MARKED[form])
         number = rng.choice([1, 2, COMMENT]) if key == "comment" else None
         kind = "u" if rng.random() < 0.35 else "m"
         value = None if kind == "u" else rng.choice(VALUES.get(key, ["-"]))
@@ -824,7 +841,7 @@ class Writer:
         """The parent of a character or a run, and its codes."""
         rng = self.rng
         parent = rng.choice([None, rng.choice(known), known[-1], known[-1]]) if known else None
-        length = rng.choice([2, 2, 3, 3, 4, 5, 8]) if form == 2 and rng.random() < 0.7 else 1
+        length = rng.choice([2, 2, 3, 3, 4, 5, 8]) if form > 1 and rng.random() < 0.7 else 1
         return parent, [rng.choice(CODES) for _ in range(length)]
 
     def line(self, form, node, last, known):

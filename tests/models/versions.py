@@ -17,9 +17,12 @@ from readers import behind_an_end_test, load, move, of_fields, slot, unless, who
 NODES = [1, 2, 3, 7, 300, 65535]
 COLORS = ["000000", "0000ff", "00ff00", "ffffff"]
 LINKS = ["x", "-", "https://a.b", "https://example.org/?q=\\"]
-VALUES = {"color": COLORS, "link": LINKS}
+KINDS = ["heading:1", "heading:2", "heading:6", "bullet:0", "bullet:7", "number:0", "task:0:open", "task:0:done", "quote", "pre", "rule"]
+VALUES = {"color": COLORS, "link": LINKS, "block": KINDS}
 COMMENTS = [1, 1, 2, 3, 4, text.COMMENT]
-KEYS = ["strong", "em", "code", "link", "color", "comment"]
+KEYS = [*text.KEYS, "comment"]
+# The form of changes that has all of them.
+LATEST = max(key.form for key in text.KEYS.values())
 CODES = [ord(letter) for letter in "aaabcdeorst  ?.:\n\\\r\t\u2028é€一😀\U0010ffff"]
 START, END = ("^", None), ("$", None)
 
@@ -52,9 +55,9 @@ def place_of_key(key):
 
 
 @functools.lru_cache(maxsize=None)
-def told(form):
-    """A format as it is printed; it is pairs of a key and its value."""
-    return text.format_text(dict(form))
+def told(found, form):
+    """A format as one is told it who knows the keys up to this form; it is pairs of a key and its value."""
+    return text.format_text(dict(found), form)
 
 
 class Shown(text.Text):
@@ -100,10 +103,10 @@ class Shown(text.Text):
     def text_of(self, ids):
         return "".join([chr(self.codes[own]) for own in ids])
 
-    def lines(self, picture):
-        """What `hub spans` prints of a version."""
-        return [f"{index} {told(form)} " + self.text_of(ids).replace("\\", "\\\\").replace("\n", "\\n")
-                for index, (ids, form) in enumerate(picture.spans)]
+    def lines(self, picture, form=LATEST):
+        """What `hub spans` prints of a version, or a session to which the keys of later forms aren't told."""
+        return [f"{index} {told(found, form)} " + self.text_of(ids).replace("\\", "\\\\").replace("\n", "\\n")
+                for index, (ids, found) in enumerate(picture.spans)]
 
     def plain_lines(self):
         """The same by text.py, which looks for the last mark over each place."""
@@ -380,7 +383,7 @@ class Writer:
         return self.around(some[0], some[-1])
 
     def key(self, draft):
-        name = self.rng.choice(KEYS if draft.form > 1 else [key for key in KEYS if key != "code"])
+        name = self.rng.choice([key for key in KEYS if text.form_of_key(key) <= draft.form])
         return name, self.rng.choice(COMMENTS) if name == "comment" else None
 
     def value(self, key):
@@ -395,7 +398,7 @@ class Writer:
         for _ in range(min(4, len(self.shown.marks))):
             _, _, key, _, ends = self.rng.choice(self.shown.marks[-400:])
             known = all(own is None or self.knows(draft.node, own) for _, own in ends)
-            if known and (key[0] != "code" or draft.form > 1):
+            if known and text.form_of_key(key[0]) <= draft.form:
                 draft.mark(self.rng.choice("uuum"), key, self.value(key), ends)
                 return
         self.mark(draft)
@@ -415,10 +418,9 @@ class Writer:
         if not (self.knows(draft.node, ids[0]) and self.knows(draft.node, ids[-1])):
             return self.mark(draft)
         own, other, ends = dict(own), dict(other), self.around(ids[0], ids[-1])
-        if any(key[0] == "code" for key in own.keys() ^ other.keys()):
-            draft.form = max(2, draft.form)
         for key in sorted(own.keys() | other.keys(), key=place_of_key):
             if own.get(key) != other.get(key):
+                draft.form = max(text.form_of_key(key[0]), draft.form)
                 draft.mark("m" if key in other else "u", key, other.get(key), ends)
 
     def far(self, draft):
@@ -472,7 +474,7 @@ class Writer:
         rng = self.rng
         if len(self.there) <= 200 and rng.random() < 0.6:
             return draft.remove(self.there)
-        draft.form = max(2, draft.form)
+        draft.form = LATEST
         keys = sorted({op[2] for op in self.shown.marks}, key=place_of_key)
         middle = ("<", rng.choice(self.there)) if self.there else START
         ends = rng.choice([(START, END), (START, END), (START, middle), (middle, END)])
@@ -481,7 +483,7 @@ class Writer:
 
     def paint(self, draft):
         """A mark over each other character, so that a text of many spans comes of it."""
-        draft.form = max(2, draft.form)
+        draft.form = max(draft.form, self.rng.choice([2, LATEST]))
         places = list(range(0, len(self.there) - 1, 2))
         for at in self.rng.sample(places, min(len(places), self.size.marks, draft.room())):
             key = self.key(draft)

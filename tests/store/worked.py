@@ -26,7 +26,7 @@ def try_case(hub, store, words, given, printed):
     texts = kept(store)
     same(len(texts), count, "changes in the store")
     expect(replayed_changes(hub, store, count, options=size)[0] == texts, "another hub has other changes")
-    status, lines = replayed(hub, store, *(f"show {count} {first} 1024" for first in range(0, 1 << 13, 1 << 10)), options=size)
+    status, lines = replayed(hub, store, *(f"show3 {count} {first} 1024" for first in range(0, 1 << 13, 1 << 10)), options=size)
     found = [line.removeprefix("span ") for line in lines if line.startswith("span ")]
     same((status, found), (0, spans(hub, texts, size)[: 1 << 13]), "the spans of a hub that starts from it")
     return count

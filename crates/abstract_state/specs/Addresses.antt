@@ -3,6 +3,7 @@ use Rattle.std.specs.Prelude.{ℕ, ◌+◌, ◌-◌, ◌%◌, ◌^◌, nat_le, n
 use Rattle.std.specs.Prelude.{option_map, unwrap_or}
 use Rattle.span_context.specs.declared.profile.Profile.{Profile}
 use Rattle.span_context.specs.Profile.{context_length, has_more_rules}
+use Rattle.span_context.specs.Context.{context_base}
 use Rattle.bpf_words.specs.declared.instruction.Arithmetic.{Arithmetic}
 use Rattle.bpf_words.specs.declared.instruction.Arithmetic.TheVariants as is
 use Rattle.bpf_words.specs.declared.instruction.Width.{Width}
@@ -12,12 +13,14 @@ use Rattle.bpf_words.specs.declared.instruction.Extension.TheVariants.{FromByte,
 use Rattle.bpf_words.specs.declared.instruction.Extension.TheVariants.{NarrowFromHalf}
 use Rattle.bpf_words.specs.declared.instruction.ConvertedBits.{ConvertedBits}
 use Rattle.semantics.specs.Value.{bytes_kept}
+use Rattle.semantics.specs.Memory.{stack_base}
 use Rattle.abstract_state.specs.declared.region.Region.{Region}
 use Rattle.abstract_state.specs.declared.region.Region.TheVariants.{Text, Link}
 use Rattle.abstract_state.specs.declared.known.Known.{Known}
 use Rattle.abstract_state.specs.declared.known.Known.TheVariants.{Number, Context, Stack, Lent}
 use Rattle.abstract_state.specs.declared.refusal.Refusal.{Refusal}
 use Rattle.abstract_state.specs.declared.refusal.Refusal.TheVariants.{PointerArithmetic, TextOffset}
+use Rattle.abstract_state.specs.Lent.{base_of}
 use Rattle.abstract_state.specs.Estimate.{Estimate, estimate_of, up_to, unknown, only, normal_cut, operand_cut, joined}
 use Rattle.abstract_state.specs.Transfer.{added, taken_away, transferred}
 
@@ -34,6 +37,13 @@ content_of (Number q) = ANumber (estimate_of q)
 content_of (Context p) = InContext p.offset
 content_of (Stack p) = InStack p.offset
 content_of (Lent p) = InRegion p.region (estimate_of p.offset)
+
+-- the one number that it can be, where there is one; of an address at a known offset too
+abbrev pub number_of : Content → Option ℕ
+number_of (ANumber a) = only a
+number_of (InContext p) = Some (context_base + p)
+number_of (InStack p) = Some (stack_base + p)
+number_of (InRegion region a) = option_map (λ x. base_of region + x) (only a)
 
 -- an answer with what it says in place of what the code holds
 abbrev pub answer_of : {A B : Type 0} → (A → B) → Result A Refusal → Result B Refusal

@@ -19,7 +19,7 @@ use crate::refusal::Refusal;
 use crate::region::Region;
 use crate::transfer::transfer;
 use bpf_words::instruction::{Arithmetic, Conversion, ConvertedBits, Extension, Width};
-use span_context::context::STACK_BYTES;
+use span_context::context::{CONTEXT, FRAME, STACK_BYTES};
 use span_context::profile::Profile;
 
 /// What is known of a number that a register or a stack slot holds.
@@ -214,6 +214,21 @@ impl Known {
         match self {
             Known::Number(_) => true,
             _ => false,
+        }
+    }
+
+    /// The number that is known, if only one is possible: of an address, the address itself.
+    pub fn only(self) -> Option<u64>
+        ensures { result ≡ rules.number_of (content_of self) }
+    {
+        match self {
+            Known::Number(quantity) => quantity.only(),
+            Known::Context(address) => Some(CONTEXT + address.offset),
+            Known::Stack(address) => Some(FRAME - STACK_BYTES as u64 + address.offset),
+            Known::Lent(address) => {
+                let offset = address.offset.only()?;
+                Some(address.region.base() + offset)
+            }
         }
     }
 

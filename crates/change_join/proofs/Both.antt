@@ -1,15 +1,20 @@
 -- The change of the lines of two.
 use Rattle.std.proofs.Common.{◌≡◌, ℕ, Bool, ◌+◌, ◌<◌, ◌≤◌, true, List, [], ◌∷◌, ◌++◌, length, get_or, drop, add-one, drop-cons, refl, sym, ap, subst, ◌∙◌, arith, append_assoc, length-append}
-use Rattle.std.specs.Prelude.{IsTrue, nat_le, not, ◌&&◌, ◌==◌}
+use Rattle.std.specs.Prelude.{IsTrue, nat_le, ◌&&◌, ◌==◌}
 use Rattle.std.specs.List.{AllByRecursion}
 use Rattle.std.proofs.lemmas.List.{drop_all}
-use Rattle.std.proofs.lemmas.Bool.{and_parts, leb-true, eqb-true}
+use Rattle.std.proofs.lemmas.Bool.{and_parts, leb-true, le-leb, eqb-true}
 use Rattle.change_ops.specs.Changes.{Change, IsChange, IsLine, operations}
-use Rattle.change_ops.specs.Lines.{ops_of, ops_of_lines, count_of, count_of_lines, names_code, line_within, has_line}
-use Rattle.change_ops.specs.Operations.{is_revival}
+use Rattle.change_ops.specs.Keys.{form_of, is_at_most, number_of_form}
+use Rattle.change_ops.specs.Lines.{ops_of, ops_of_lines, count_of, count_of_lines, line_within, has_key, has_op, has_line}
+use Rattle.change_ops.specs.Operations.{key_of}
+use Rattle.change_ops.specs.declared.attribute.Key.{Key}
+use Rattle.change_ops.specs.declared.attribute.Key.TheVariants as key
 use Rattle.change_ops.specs.declared.line.Form.{Form}
 use Rattle.change_ops.specs.declared.line.Form.TheVariants.{First, Second, Third}
 use Rattle.change_ops.specs.declared.line.Line.{Line}
+use Rattle.change_ops.specs.declared.operation.Op.{Op}
+use Rattle.change_ops.specs.declared.operation.Op.TheVariants.{Insert, Remove, AddMark, RemoveMark, Revive}
 use Rattle.change_ops.specs.declared.line.Line.TheVariants.{Operation, Run, Removals, Revivals}
 use Rattle.change_ops.proofs.RoomLaws.{more_count, no_count}
 use Rattle.change_ops.proofs.RunLaws.{run_limits}
@@ -58,28 +63,53 @@ joinable change next e =
     let fits = and_parts (counts_fit change next) (meanings_fit change next) parts.1 in
     record { node = eqb-true _ _ parts.0; few = leb-true _ _ fits.0; meant = leb-true _ _ fits.1 }
 
+-- ---- changes of a form have what those of an earlier one have
+known_still : (needed form other : Form) → number_of_form form ≤ number_of_form other → IsTrue (is_at_most needed form) → IsTrue (is_at_most needed other)
+known_still needed form other more known =
+    let least = leb-true (number_of_form needed) (number_of_form form) known in
+    le-leb (number_of_form needed) (number_of_form other) (omega (arith, least, more))
+
+key_still : (form other : Form) (k : Key) → number_of_form form ≤ number_of_form other → IsTrue (has_key form k) → IsTrue (has_key other k)
+key_still form other (key.Row row) more has = known_still (form_of row) form other more has
+key_still form other (key.Comment number) more has = refl
+
+op_still : (form other : Form) (op : Op) → number_of_form form ≤ number_of_form other → IsTrue (has_op form op) → IsTrue (has_op other op)
+op_still form other (Insert id parent character) more has = refl
+op_still form other (Remove id target) more has = refl
+op_still form other (AddMark id attribute start end) more has = key_still form other (key_of attribute) more has
+op_still form other (RemoveMark id k start end) more has = key_still form other k more has
+op_still form other (Revive id removal) more has = known_still Third form other more has
+
+line_still : (form other : Form) (line : Line) → number_of_form form ≤ number_of_form other → IsTrue (has_line form line) → IsTrue (has_line other line)
+line_still form other (Operation op) more has = op_still form other op more has
+line_still form other (Run run) more has = known_still Second form other more has
+line_still form other (Removals run) more has = known_still Third form other more has
+line_still form other (Revivals run) more has = known_still Third form other more has
+
 -- its lines are of the wider form
-second_has : (line : Line) → IsTrue (has_line First line) → IsTrue (has_line Second line)
-second_has (Operation op) h = (and_parts (not (names_code op)) (not (is_revival op)) h).1
-second_has (Run run) h = refl
-second_has (Removals run) h = h
-second_has (Revivals run) h = h
+left_wider : (form other : Form) → number_of_form form ≤ number_of_form (wider form other)
+left_wider First First = omega arith
+left_wider First Second = omega arith
+left_wider First Third = omega arith
+left_wider Second First = omega arith
+left_wider Second Second = omega arith
+left_wider Second Third = omega arith
+left_wider Third other = omega arith
+
+right_wider : (form other : Form) → number_of_form other ≤ number_of_form (wider form other)
+right_wider First other = omega arith
+right_wider Second First = omega arith
+right_wider Second Second = omega arith
+right_wider Second Third = omega arith
+right_wider Third First = omega arith
+right_wider Third Second = omega arith
+right_wider Third Third = omega arith
 
 wider_left : (form other : Form) (line : Line) → IsTrue (has_line form line) → IsTrue (has_line (wider form other) line)
-wider_left First First line h = h
-wider_left First Second line h = second_has line h
-wider_left First Third line h = refl
-wider_left Second First line h = h
-wider_left Second Second line h = h
-wider_left Second Third line h = refl
-wider_left Third other line h = refl
+wider_left form other line has = line_still form (wider form other) line (left_wider form other) has
 
 wider_right : (form other : Form) (line : Line) → IsTrue (has_line other line) → IsTrue (has_line (wider form other) line)
-wider_right First other line h = h
-wider_right Second First line h = second_has line h
-wider_right Second Second line h = h
-wider_right Second Third line h = refl
-wider_right Third other line h = refl
+wider_right form other line has = line_still other (wider form other) line (right_wider form other) has
 
 module _ (form other : Form) (peer : ℕ) where
   lines_left : (lines : List Line) → AllByRecursion (IsLine form peer) lines → AllByRecursion (IsLine (wider form other) peer) lines

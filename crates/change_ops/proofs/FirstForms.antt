@@ -1,12 +1,11 @@
 -- The changes of the first form spell plain operations out.
-use Rattle.std.proofs.Common.{◌≡◌, ℕ, ◌≤◌, Bool, true, false, List, [], ◌∷◌, ◌++◌, map, length, refl, sym, ap, subst, ◌∙◌, arith}
-use Rattle.std.specs.Prelude.{not, codes}
+use Rattle.std.proofs.Common.{◌≡◌, ℕ, ◌≤◌, List, [], ◌∷◌, ◌++◌, map, length, refl, sym, ap, subst, ◌∙◌, arith}
+use Rattle.std.specs.Prelude.{codes}
 use Rattle.std.specs.Fmt.{decimal}
 use Rattle.std.specs.List.{AllByRecursion}
-use Rattle.std.proofs.lemmas.Bool.{false≢true, and_parts, and_from}
+use Rattle.std.proofs.lemmas.Bool.{false≢true}
 use Rattle.std.proofs.lemmas.List.{length-map}
-use Rattle.change_ops.specs.Lines.{ops_of_lines, count_of_lines, names_code}
-use Rattle.change_ops.specs.Operations.{is_revival}
+use Rattle.change_ops.specs.Lines.{ops_of_lines, count_of_lines}
 use Rattle.change_ops.specs.Changes.{IsLine, IsChange}
 use Rattle.change_ops.specs.Spelling.{◌␣◌, op_text, lines_text, change_text}
 use Rattle.change_ops.specs.FirstForm.{ops_text, spelled_out, IsPlainOp, ArePlainOps, FirstFormIsPlain}
@@ -16,22 +15,13 @@ use Rattle.change_ops.specs.declared.line.Form.TheVariants.{First}
 use Rattle.change_ops.specs.declared.line.Line.{Line}
 use Rattle.change_ops.specs.declared.line.Line.TheVariants.{Operation, Run, Removals, Revivals}
 
-not_true : (b : Bool) → not b ≡ true → b ≡ false
-not_true true h = absurd (false≢true h)
-not_true false h = refl
-
-not_false : (b : Bool) → b ≡ false → not b ≡ true
-not_false true h = absurd (false≢true (sym h))
-not_false false h = refl
-
 -- the lines of a change of the first form are its operations
 pub lines_are_ops : (node : ℕ) (lines : List Line) → AllByRecursion (IsLine First node) lines → AllByRecursion (IsPlainOp node) (ops_of_lines lines) × (lines ≡ map Operation (ops_of_lines lines))
 unfolding ops_of_lines
 lines_are_ops node [] h = (tt, refl)
 lines_are_ops node (Operation op ∷ lines) h =
     let rest = lines_are_ops node lines h.1 in
-    let formed = and_parts (not (names_code op)) (not (is_revival op)) h.0.formed in
-    let one : IsPlainOp node op = record { own = h.0.own; within = h.0.within; character = h.0.characters; other = not_true (names_code op) formed.0; kept = not_true (is_revival op) formed.1 } in
+    let one : IsPlainOp node op = record { own = h.0.own; within = h.0.within; character = h.0.characters; had = h.0.formed } in
     ((one, rest.0), ap (λ (ls : List Line). Operation op ∷ ls) rest.1)
 lines_are_ops node (Run run ∷ lines) h = absurd (false≢true h.0.formed)
 lines_are_ops node (Removals run ∷ lines) h = absurd (false≢true h.0.formed)
@@ -40,8 +30,7 @@ lines_are_ops node (Revivals run ∷ lines) h = absurd (false≢true h.0.formed)
 pub ops_are_lines : (node : ℕ) (ops : List Op) → AllByRecursion (IsPlainOp node) ops → AllByRecursion (IsLine First node) (map Operation ops)
 ops_are_lines node [] h = tt
 ops_are_lines node (op ∷ ops) h =
-    let formed = and_from (not (names_code op)) (not (is_revival op)) (not_false (names_code op) h.0.other) (not_false (is_revival op) h.0.kept) in
-    let one : IsLine First node (Operation op) = record { own = h.0.own; within = h.0.within; characters = h.0.character; formed = formed } in
+    let one : IsLine First node (Operation op) = record { own = h.0.own; within = h.0.within; characters = h.0.character; formed = h.0.had } in
     (one, ops_are_lines node ops h.1)
 
 pub ops_again : (ops : List Op) → ops_of_lines (map Operation ops) ≡ ops

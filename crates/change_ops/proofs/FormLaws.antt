@@ -3,26 +3,36 @@ use Rattle.std.proofs.Common.{◌≡◌, ℕ, ◌<◌, ◌≤◌, Bool, true, fa
 use Rattle.std.specs.Prelude.{◌&&◌, codes, if◌then◌else◌}
 use Rattle.std.specs.Str.{bytes_eq}
 use Rattle.std.specs.List.{list_all, AllByRecursion}
+use Rattle.std.specs.Option.{option_map}
 use Rattle.std.proofs.lemmas.Bool.{cases_lt, and_parts, and_from, leb-true, le-leb, ltb-true, lt-ltb, le-ltb, eq-eqb, eqb-true}
 use Rattle.std.proofs.lemmas.List.{length-map}
 use Rattle.change_ops.specs.Ids.{OpId}
+use Rattle.change_ops.specs.Keys.{words, type_of_row, row_at}
+use Rattle.change_ops.specs.LineKinds.{kind_words, kind_at}
 use Rattle.change_ops.specs.Attributes.{is_link_byte}
+use Rattle.change_ops.specs.Values.{type_of}
 use Rattle.change_ops.specs.Operations.{key_of}
 use Rattle.change_ops.specs.Words.{split, digit_of, digits_after, number_in}
-use Rattle.change_ops.specs.Reading.{◌>>=◌, id_at, hex_at, parent_at, beside, anchor_at, anchors_at, comment_at, key_at, color_at, link_at, bare, value_at, attribute_at, insert_at, remove_at, marked_at, mark_at, unmarked_at, unmark_at, revive_at, op_at}
+use Rattle.change_ops.specs.Reading.{◌>>=◌, id_at, hex_at, parent_at, beside, anchor_at, anchors_at, comment_at, row_or_comment, key_at, color_at, link_at, bare, value_at, valued, added_at, attribute_at, insert_at, remove_at, marked_at, mark_at, unmarked_at, unmark_at, revive_at, op_at}
 use Rattle.change_ops.specs.Spelling.{◌␣◌}
-use Rattle.change_ops.specs.Forms.{Numeral, Joined, ◌⎵◌, Word, IdForm, ParentForm, CodeForm, SignedId, AnchorForm, KeyForm, LinkForm, ColorForm, ValueForm, OpForm}
+use Rattle.change_ops.specs.Forms.{Numeral, Joined, ◌⎵◌, Word, IdForm, ParentForm, CodeForm, SignedId, AnchorForm, KeyForm, LinkForm, ColorForm, ValueForm, AddedForm, OpForm}
 use Rattle.change_ops.specs.declared.attribute.Key.{Key}
 use Rattle.change_ops.specs.declared.attribute.Key.TheVariants as key
 use Rattle.change_ops.specs.declared.attribute.Attribute.{Attribute}
 use Rattle.change_ops.specs.declared.attribute.Attribute.TheVariants as attribute
+use Rattle.change_ops.specs.declared.keys.ValueType.{ValueType}
+use Rattle.change_ops.specs.declared.keys.ValueType.TheVariants as type
+use Rattle.change_ops.specs.declared.value.Value.{Value}
+use Rattle.change_ops.specs.declared.value.Value.TheVariants as value
 use Rattle.change_ops.specs.declared.operation.Anchor.{Anchor}
 use Rattle.change_ops.specs.declared.operation.Anchor.TheVariants.{TextStart, BeforeCharacter, AfterCharacter, TextEnd}
 use Rattle.change_ops.specs.declared.operation.Op.{Op}
 use Rattle.change_ops.specs.declared.operation.Op.TheVariants.{Insert, Remove, AddMark, RemoveMark, Revive}
 use Rattle.change_ops.proofs.Grammar.{Lacks, bind_some, split_again, split_takes, number_lacks, are_digits, no_digit}
 use Rattle.change_ops.proofs.Phrases.{lacks_cons, lacks_joined, same_bytes, other_word, no_dash, before_again, after_again}
-use Rattle.change_ops.proofs.Keys.{lacks_all, lacks_printed, no_digit_below, above}
+use Rattle.change_ops.proofs.Places.{all_at, word_found, place_found}
+use Rattle.change_ops.proofs.Tables.{is_printed, keys_differ, keys_printed, kinds_differ, kinds_printed}
+use Rattle.change_ops.proofs.KeyWords.{lacks_all, lacks_printed, no_digit_below, above, no_row, bare_some, map_some}
 use Rattle.change_ops.proofs.LineLaws.{kind}
 use Rattle.change_ops.proofs.NumeralForms.{number_takes, number_again, digits_takes, digits_again}
 
@@ -58,11 +68,7 @@ anchor_lacks mark (AfterCharacter id) word s h = signed_lacks mark 62 id word s 
 anchor_lacks mark TextEnd word s h = word_lacks mark (codes "$") word s refl h
 
 pub key_lacks : (mark : ℕ) (k : Key) (word : List ℕ) → mark < 33 → KeyForm k word → Lacks mark word
-key_lacks mark key.Strong word s h = word_lacks mark (codes "strong") word s refl h
-key_lacks mark key.Em word s h = word_lacks mark (codes "em") word s refl h
-key_lacks mark key.Code word s h = word_lacks mark (codes "code") word s refl h
-key_lacks mark key.Link word s h = word_lacks mark (codes "link") word s refl h
-key_lacks mark key.Color word s h = word_lacks mark (codes "color") word s refl h
+key_lacks mark (key.Row row) word s h = lacks_printed mark word s (all_at is_printed words row word keys_printed h)
 key_lacks mark (key.Comment n) word s j =
     subst (Lacks mark) (sym j.whole) (lacks_joined mark j.first j.second 58 (word_lacks mark (codes "comment") j.first s refl j.before) (above 58 mark s (omega arith)) (decimal_lacks mark n j.second s j.after))
 
@@ -83,13 +89,15 @@ color_read rgb word h =
 color_lacks : (mark rgb : ℕ) (word : List ℕ) → mark < 33 → ColorForm rgb word → Lacks mark word
 color_lacks mark rgb word s h = no_digit 16 mark word (no_digit_below mark s) (are_digits 16 word 0 rgb (digits_again 16 rgb h.digits word (omega arith) h.spells))
 
-value_lacks : (mark : ℕ) (a : Attribute) (word : List ℕ) → mark < 33 → ValueForm a word → Lacks mark word
-value_lacks mark attribute.Strong word s h = word_lacks mark (codes "-") word s refl h
-value_lacks mark attribute.Em word s h = word_lacks mark (codes "-") word s refl h
-value_lacks mark attribute.Code word s h = word_lacks mark (codes "-") word s refl h
-value_lacks mark (attribute.Link target) word s h = word_lacks mark target word s (printable_lacks mark target s h.printable) h.whole
-value_lacks mark (attribute.Color rgb) word s h = color_lacks mark rgb word s h
-value_lacks mark (attribute.Comment n) word s h = word_lacks mark (codes "-") word s refl h
+value_lacks : (mark : ℕ) (v : Value) (word : List ℕ) → mark < 33 → ValueForm v word → Lacks mark word
+value_lacks mark value.Nothing word s h = word_lacks mark (codes "-") word s refl h
+value_lacks mark (value.Link target) word s h = word_lacks mark target word s (printable_lacks mark target s h.printable) h.whole
+value_lacks mark (value.Color rgb) word s h = color_lacks mark rgb word s h
+value_lacks mark (value.LineKind kind) word s h = lacks_printed mark word s (all_at is_printed kind_words kind word kinds_printed h)
+
+added_lacks : (mark : ℕ) (a : Attribute) (word : List ℕ) → mark < 33 → AddedForm a word → Lacks mark word
+added_lacks mark (attribute.Row v) word s h = value_lacks mark v.value word s h.spelled
+added_lacks mark (attribute.Comment n) word s h = word_lacks mark (codes "-") word s refl h
 
 -- ids, parents, codes, anchors
 
@@ -195,31 +203,18 @@ comment_read n digits h =
 
 key_form : (word : List ℕ) (k : Key) → key_at word ≡ Some k → KeyForm k word
 unfolding key_at
-key_form word k e = go (bytes_eq word (codes "strong")) (bytes_eq word (codes "em")) (bytes_eq word (codes "code")) (bytes_eq word (codes "link")) (bytes_eq word (codes "color")) refl refl refl refl refl e where
-  at : (x : Key) → x ≡ k → KeyForm x word → KeyForm k word
-  at x same h = subst (λ (y : Key). KeyForm y word) same h
-
-  go : (a b x c d : Bool) → bytes_eq word (codes "strong") ≡ a → bytes_eq word (codes "em") ≡ b → bytes_eq word (codes "code") ≡ x → bytes_eq word (codes "link") ≡ c → bytes_eq word (codes "color") ≡ d
-      → cond a (Some key.Strong) (cond b (Some key.Em) (cond x (Some key.Code) (cond c (Some key.Link) (cond d (Some key.Color) (comment_at word >>= λ number. Some (key.Comment number)))))) ≡ Some k → KeyForm k word
-  go true b x c d f1 f2 f f3 f4 e = let same : key.Strong ≡ k = cc in at key.Strong same (same_bytes word (codes "strong") f1)
-  go false true x c d f1 f2 f f3 f4 e = let same : key.Em ≡ k = cc in at key.Em same (same_bytes word (codes "em") f2)
-  go false false true c d f1 f2 f f3 f4 e = let same : key.Code ≡ k = cc in at key.Code same (same_bytes word (codes "code") f)
-  go false false false true d f1 f2 f f3 f4 e = let same : key.Link ≡ k = cc in at key.Link same (same_bytes word (codes "link") f3)
-  go false false false false true f1 f2 f f3 f4 e = let same : key.Color ≡ k = cc in at key.Color same (same_bytes word (codes "color") f4)
-  go false false false false false f1 f2 f f3 f4 e =
-      let a = bind_some (comment_at word) (λ number. Some (key.Comment number)) k e in
-      let same : key.Comment a.0 ≡ k = cc (a.2) in at (key.Comment a.0) same (comment_form word a.0 a.1)
+key_form word k e = go (row_at word) (comment_at word) refl refl e where
+  go : (row comment : Option ℕ) → row_at word ≡ row → comment_at word ≡ comment → row_or_comment row comment ≡ Some k → KeyForm k word
+  go (Some row) comment f g e = let same : key.Row row ≡ k = cc in subst (λ (x : Key). KeyForm x word) same (word_found words word row f)
+  go None (Some n) f g e = let same : key.Comment n ≡ k = cc in subst (λ (x : Key). KeyForm x word) same (comment_form word n g)
+  go None None f g e = absurd cc
 
 key_read : (word : List ℕ) (k : Key) → KeyForm k word → key_at word ≡ Some k
 unfolding key_at
-key_read word key.Strong h = ap key_at h
-key_read word key.Em h = ap key_at h
-key_read word key.Code h = ap key_at h
-key_read word key.Link h = ap key_at h
-key_read word key.Color h = ap key_at h
+key_read word (key.Row row) h = ap (λ (o : Option ℕ). row_or_comment o (comment_at word)) (place_found words word row keys_differ h)
 key_read word (key.Comment n) j =
     let whole : word ≡ codes "comment" ++ 58 ∷ j.second = j.whole ∙ ap (λ (x : List ℕ). x ++ 58 ∷ j.second) j.before in
-    ap key_at whole ∙ rw (comment_read n j.second j.after) refl
+    ap key_at whole ∙ (λ i. row_or_comment (no_row j.second i) (comment_read n j.second j.after i))
 
 -- values
 
@@ -261,53 +256,58 @@ color_form word rgb e = go (eqb (length word) 6) refl e where
       let r = digits_takes 16 rgb word (omega arith) g in
       record { digits = r.0; six = sym (ap length r.1.written ∙ length-map r.0 _) ∙ eqb-true _ _ f; spells = r.1 }
 
+-- a value and its type
+abbrev TypeAndForm : ValueType → Value → List ℕ → Type 0
+TypeAndForm t v word = (type_of v ≡ t) × ValueForm v word
+
+typed_form : (t : ValueType) (x v : Value) (word : List ℕ) → x ≡ v → TypeAndForm t x word → TypeAndForm t v word
+typed_form t x v word same h = subst (λ (y : Value). TypeAndForm t y word) same h
+
+value_form : (t : ValueType) (word : List ℕ) (v : Value) → value_at t word ≡ Some v → TypeAndForm t v word
+unfolding value_at
+value_form type.Nothing word v e = let b = bare_some value.Nothing v word e in typed_form type.Nothing value.Nothing v word b.1 (refl, b.0)
+value_form type.Link word v e = let b = map_some value.Link (link_at word) v e in typed_form type.Link (value.Link b.0) v word b.2 (refl, link_form word b.0 b.1)
+value_form type.Color word v e = let b = map_some value.Color (color_at word) v e in typed_form type.Color (value.Color b.0) v word b.2 (refl, color_form word b.0 b.1)
+value_form type.LineKind word v e = let b = map_some value.LineKind (kind_at word) v e in typed_form type.LineKind (value.LineKind b.0) v word b.2 (refl, word_found kind_words word b.0 b.1)
+
+value_read : (word : List ℕ) (v : Value) → ValueForm v word → value_at (type_of v) word ≡ Some v
+unfolding value_at
+value_read word value.Nothing h = ap (bare value.Nothing) h
+value_read word (value.Link target) h = ap (option_map value.Link) (link_read word target h)
+value_read word (value.Color rgb) h = ap (option_map value.Color) (color_read rgb word h)
+value_read word (value.LineKind kind) h = ap (option_map value.LineKind) (place_found kind_words word kind kinds_differ h)
+
 -- an attribute's key and its value's word
-abbrev KeyAndValue : Key → List ℕ → Attribute → Type 0
-KeyAndValue k word a = (k ≡ key_of a) × ValueForm a word
+abbrev KeyAndAdded : Key → List ℕ → Attribute → Type 0
+KeyAndAdded k word a = (k ≡ key_of a) × AddedForm a word
 
-bare_form : (x a : Attribute) (word : List ℕ) → (word ≡ codes "-" → ValueForm x word) → bare x word ≡ Some a → KeyAndValue (key_of x) word a
-bare_form x a word h e = go (bytes_eq word (codes "-")) refl e where
-  go : (t : Bool) → bytes_eq word (codes "-") ≡ t → cond t (Some x) None ≡ Some a → KeyAndValue (key_of x) word a
-  go true f g = let same : x ≡ a = cc in (ap key_of same, subst (λ (y : Attribute). ValueForm y word) same (h (same_bytes word (codes "-") f)))
-  go false f g = absurd cc
+added_form : (k : Key) (word : List ℕ) (a : Attribute) → added_at k word ≡ Some a → KeyAndAdded k word a
+added_form (key.Row row) word a e =
+    let b = map_some (valued row) (value_at (type_of_row row) word) a e in
+    let t = value_form (type_of_row row) word b.0 b.1 in
+    let made : AddedForm (valued row b.0) word = record { typed = t.0; spelled = t.1 } in
+    subst (KeyAndAdded (key.Row row) word) b.2 (refl, made)
+added_form (key.Comment n) word a e =
+    let b = bare_some (attribute.Comment n) a word e in
+    subst (KeyAndAdded (key.Comment n) word) b.1 (refl, b.0)
 
-value_form : (k : Key) (word : List ℕ) (a : Attribute) → value_at k word ≡ Some a → KeyAndValue k word a
-unfolding value_at
-value_form key.Strong word a e = bare_form attribute.Strong a word (λ h. h) e
-value_form key.Em word a e = bare_form attribute.Em a word (λ h. h) e
-value_form key.Code word a e = bare_form attribute.Code a word (λ h. h) e
-value_form key.Link word a e =
-    let b = bind_some (link_at word) (λ target. Some (attribute.Link target)) a e in
-    let same : attribute.Link b.0 ≡ a = cc (b.2) in
-    (ap key_of same, subst (λ (y : Attribute). ValueForm y word) same (link_form word b.0 b.1))
-value_form key.Color word a e =
-    let b = bind_some (color_at word) (λ rgb. Some (attribute.Color rgb)) a e in
-    let same : attribute.Color b.0 ≡ a = cc (b.2) in
-    (ap key_of same, subst (λ (y : Attribute). ValueForm y word) same (color_form word b.0 b.1))
-value_form (key.Comment n) word a e = bare_form (attribute.Comment n) a word (λ h. h) e
-
-value_read : (word : List ℕ) (a : Attribute) → ValueForm a word → value_at (key_of a) word ≡ Some a
-unfolding value_at
-value_read word attribute.Strong h = ap (bare attribute.Strong) h
-value_read word attribute.Em h = ap (bare attribute.Em) h
-value_read word attribute.Code h = ap (bare attribute.Code) h
-value_read word (attribute.Link target) h = rw (link_read word target h) refl
-value_read word (attribute.Color rgb) h = rw (color_read rgb word h) refl
-value_read word (attribute.Comment n) h = ap (bare (attribute.Comment n)) h
+added_read : (word : List ℕ) (a : Attribute) → AddedForm a word → added_at (key_of a) word ≡ Some a
+added_read word (attribute.Row v) h = ap (option_map (valued v.row)) (ap (λ (t : ValueType). value_at t word) (sym h.typed) ∙ value_read word v.value h.spelled)
+added_read word (attribute.Comment n) h = ap (bare (attribute.Comment n)) h
 
 abbrev AttributeWords : List ℕ → List ℕ → Attribute → Type 0
-AttributeWords name value a = KeyForm (key_of a) name × ValueForm a value
+AttributeWords name value a = KeyForm (key_of a) name × AddedForm a value
 
 attribute_form : (name value : List ℕ) (a : Attribute) → attribute_at name value ≡ Some a → AttributeWords name value a
 unfolding attribute_at
 attribute_form name value a e =
-    let b = bind_some (key_at name) (λ k. value_at k value) a e in
-    let c = value_form b.0 value a b.2 in
+    let b = bind_some (key_at name) (λ k. added_at k value) a e in
+    let c = added_form b.0 value a b.2 in
     (subst (λ (k : Key). KeyForm k name) c.0 (key_form name b.0 b.1), c.1)
 
-attribute_read : (name value : List ℕ) (a : Attribute) → KeyForm (key_of a) name → ValueForm a value → attribute_at name value ≡ Some a
+attribute_read : (name value : List ℕ) (a : Attribute) → KeyForm (key_of a) name → AddedForm a value → attribute_at name value ≡ Some a
 unfolding attribute_at
-attribute_read name value a h g = rw (key_read name (key_of a) h, value_read value a g) refl
+attribute_read name value a h g = ap (λ (k : Option Key). k >>= λ key. added_at key value) (key_read name (key_of a) h) ∙ added_read value a g
 
 -- what stands behind the first word of a line
 
@@ -385,7 +385,7 @@ abbrev Marked : Type 0
 Marked = Attribute × Anchors
 
 abbrev MarkedForm : Marked → List ℕ → Type 0
-MarkedForm marked = KeyForm (key_of marked.0) ⎵ ValueForm marked.0 ⎵ AnchorsForm marked.1
+MarkedForm marked = KeyForm (key_of marked.0) ⎵ AddedForm marked.0 ⎵ AnchorsForm marked.1
 
 marked_form : (fields : List ℕ) (marked : Marked) → marked_at fields ≡ Some marked → MarkedForm marked fields
 unfolding marked_at
@@ -397,7 +397,7 @@ marked_form fields marked e =
     let made : Marked = (d.0, c.0) in
     let same : made ≡ marked = cc (d.2) in
     let w = attribute_form a.0.0 b.0.0 d.0 d.1 in
-    let inner : Joined 32 (ValueForm d.0) (AnchorsForm c.0) a.0.1 = record { first = b.0.0; second = b.0.1; whole = (split_takes 32 a.0.1 b.0.0 b.0.1 b.1).0; before = w.1; after = anchors_form b.0.1 c.0 c.1 } in
+    let inner : Joined 32 (AddedForm d.0) (AnchorsForm c.0) a.0.1 = record { first = b.0.0; second = b.0.1; whole = (split_takes 32 a.0.1 b.0.0 b.0.1 b.1).0; before = w.1; after = anchors_form b.0.1 c.0 c.1 } in
     let form : MarkedForm made fields = record { first = a.0.0; second = a.0.1; whole = (split_takes 32 fields a.0.0 a.0.1 a.1).0; before = w.0; after = inner } in
     subst (λ (x : Marked). MarkedForm x fields) same form
 
@@ -407,7 +407,7 @@ marked_read fields marked j =
     let k = j.after in
     rw (
       joined_again 32 fields j (key_lacks 32 (key_of marked.0) j.first (omega arith) j.before),
-      joined_again 32 j.second k (value_lacks 32 marked.0 k.first (omega arith) k.before),
+      joined_again 32 j.second k (added_lacks 32 marked.0 k.first (omega arith) k.before),
       anchors_read k.second marked.1 k.after,
       attribute_read j.first k.first marked.0 j.before k.before,
     ) refl

@@ -4,15 +4,16 @@ use Rattle.std.specs.Prelude.{◌&&◌, not, codes}
 use Rattle.std.specs.Str.{bytes_eq}
 use Rattle.change_ops.specs.Ids.{OpId, within_limits, is_character}
 use Rattle.change_ops.specs.Limits.{parent_within, anchors_within, key_within, attribute_within, op_within, has_character}
-use Rattle.change_ops.specs.Attributes.{is_comment_number}
+use Rattle.change_ops.specs.Keys.{is_at_most}
+use Rattle.change_ops.specs.Lines.{has_key, has_attribute, has_op}
 use Rattle.change_ops.specs.Words.{split}
-use Rattle.change_ops.specs.Reading.{◌>>=◌, id_at, parent_at, hex_at, key_at, comment_at, value_at, attribute_at, bare, anchors_at, insert_at, remove_at, marked_at, mark_at, unmarked_at, unmark_at, revive_at, op_verdict, owned, within, encoded, unvalued, both, Reads}
+use Rattle.change_ops.specs.Reading.{◌>>=◌, kept_if, id_at, parent_at, hex_at, key_at, attribute_at, anchors_at, insert_at, remove_at, marked_at, mark_at, unmarked_at, unmark_at, revive_at, op_at, op_verdict, owned, within, encoded, both, Reads}
 use Rattle.change_ops.specs.declared.refusal.LineFault.{LineFault}
 use Rattle.change_ops.specs.declared.refusal.LineFault.TheVariants.{BadLine, Limit, CharRefused, OutOfMemory}
 use Rattle.change_ops.specs.declared.attribute.Attribute.{Attribute}
-use Rattle.change_ops.specs.declared.attribute.Attribute.TheVariants as attribute
 use Rattle.change_ops.specs.declared.attribute.Key.{Key}
-use Rattle.change_ops.specs.declared.attribute.Key.TheVariants as key
+use Rattle.change_ops.specs.declared.line.Form.{Form}
+use Rattle.change_ops.specs.declared.line.Form.TheVariants.{Third}
 use Rattle.change_ops.specs.declared.operation.Anchor.{Anchor}
 use Rattle.change_ops.specs.declared.operation.Op.{Op}
 use Rattle.change_ops.specs.declared.operation.Op.TheVariants.{Insert, Remove, AddMark, RemoveMark, Revive}
@@ -122,40 +123,109 @@ pub remove_line : (peer : ℕ) (fields own target : List ℕ) (read : Result (Op
 unfolding remove_at
 remove_line peer fields own target read e same = rw (e, same) (ids_judged peer Remove (id_at own) (id_at target) (λ i n. refl) (λ i n. refl))
 
-pub revive_line : (peer : ℕ) (fields own removal : List ℕ) (read : Result (OpId × OpId) LineFault) → split 32 fields ≡ Some (own, removal)
-    → read ≡ both (within within_limits (id_at own)) (within within_limits (id_at removal)) → op_verdict peer (revive_at fields) ≡ made read (λ x. owned peer (Revive x.0 x.1))
+-- a revival where the form has such
+pub revive_line : (form : Form) (peer : ℕ) (fields own removal : List ℕ) (read : Result (OpId × OpId) LineFault) → is_at_most Third form ≡ true → split 32 fields ≡ Some (own, removal)
+    → read ≡ both (within within_limits (id_at own)) (within within_limits (id_at removal)) → op_verdict peer (kept_if (has_op form) (revive_at fields)) ≡ made read (λ x. owned peer (Revive x.0 x.1))
 unfolding revive_at
-revive_line peer fields own removal read e same = rw (e, same) (ids_judged peer Revive (id_at own) (id_at removal) (λ i n. refl) (λ i n. refl))
+revive_line form peer fields own removal read h e same = rw (e, same) (ap (op_verdict peer) (kept (id_at own) (id_at removal)) ∙ ids_judged peer Revive (id_at own) (id_at removal) (λ i n. refl) (λ i n. refl)) where
+  kept : (id removal : Option OpId) → kept_if (has_op form) (id >>= λ i. removal >>= λ r. Some (Revive i r)) ≡ (id >>= λ i. removal >>= λ r. Some (Revive i r))
+  kept None removal = refl
+  kept (Some i) None = refl
+  kept (Some i) (Some r) = rw h refl
 
-pub unmark_line : (peer : ℕ) (fields own rest name anchors : List ℕ) (read : Result ((Key × (Anchor × Anchor)) × OpId) LineFault) → split 32 fields ≡ Some (own, rest) → split 32 rest ≡ Some (name, anchors)
-    → read ≡ both (both (within key_within (key_at name)) (within anchors_within (anchors_at anchors))) (within within_limits (id_at own))
-    → op_verdict peer (unmark_at fields) ≡ made read (λ x. owned peer (RemoveMark x.1 x.0.0 x.0.1.0 x.0.1.1))
+-- and where it has none
+pub no_revival : (form : Form) (peer : ℕ) (fields : List ℕ) → is_at_most Third form ≡ false → op_verdict peer (kept_if (has_op form) (revive_at fields)) ≡ Err BadLine
+unfolding revive_at
+no_revival form peer fields h = go (split 32 fields) where
+  none : (id removal : Option OpId) → op_verdict peer (kept_if (has_op form) (id >>= λ i. removal >>= λ r. Some (Revive i r))) ≡ Err BadLine
+  none None removal = refl
+  none (Some i) None = refl
+  none (Some i) (Some r) = rw h refl
+
+  go : (o : Option (List ℕ × List ℕ)) → op_verdict peer (kept_if (has_op form) (o >>= λ first. id_at first.0 >>= λ i. id_at first.1 >>= λ r. Some (Revive i r))) ≡ Err BadLine
+  go None = refl
+  go (Some first) = none (id_at first.0) (id_at first.1)
+
+-- each form has insertions and removals
+
+kept_insert : (form : Form) (fields : List ℕ) → kept_if (has_op form) (insert_at fields) ≡ insert_at fields
+unfolding insert_at
+kept_insert form fields = go (split 32 fields) where
+  parts : (id : Option OpId) (parent : Option (Option OpId)) (code : Option ℕ) → kept_if (has_op form) (id >>= λ i. parent >>= λ p. code >>= λ c. Some (Insert i p c)) ≡ (id >>= λ i. parent >>= λ p. code >>= λ c. Some (Insert i p c))
+  parts None parent code = refl
+  parts (Some i) None code = refl
+  parts (Some i) (Some p) None = refl
+  parts (Some i) (Some p) (Some c) = refl
+
+  behind : (own : List ℕ) (o : Option (List ℕ × List ℕ)) → kept_if (has_op form) (o >>= λ second. id_at own >>= λ i. parent_at second.0 >>= λ p. hex_at second.1 >>= λ c. Some (Insert i p c)) ≡ (o >>= λ second. id_at own >>= λ i. parent_at second.0 >>= λ p. hex_at second.1 >>= λ c. Some (Insert i p c))
+  behind own None = refl
+  behind own (Some second) = parts (id_at own) (parent_at second.0) (hex_at second.1)
+
+  go : (o : Option (List ℕ × List ℕ)) → kept_if (has_op form) (o >>= λ first. split 32 first.1 >>= λ second. id_at first.0 >>= λ i. parent_at second.0 >>= λ p. hex_at second.1 >>= λ c. Some (Insert i p c)) ≡ (o >>= λ first. split 32 first.1 >>= λ second. id_at first.0 >>= λ i. parent_at second.0 >>= λ p. hex_at second.1 >>= λ c. Some (Insert i p c))
+  go None = refl
+  go (Some first) = behind first.0 (split 32 first.1)
+
+kept_remove : (form : Form) (fields : List ℕ) → kept_if (has_op form) (remove_at fields) ≡ remove_at fields
+unfolding remove_at
+kept_remove form fields = go (split 32 fields) where
+  parts : (id target : Option OpId) → kept_if (has_op form) (id >>= λ i. target >>= λ t. Some (Remove i t)) ≡ (id >>= λ i. target >>= λ t. Some (Remove i t))
+  parts None target = refl
+  parts (Some i) None = refl
+  parts (Some i) (Some t) = refl
+
+  go : (o : Option (List ℕ × List ℕ)) → kept_if (has_op form) (o >>= λ first. id_at first.0 >>= λ i. id_at first.1 >>= λ t. Some (Remove i t)) ≡ (o >>= λ first. id_at first.0 >>= λ i. id_at first.1 >>= λ t. Some (Remove i t))
+  go None = refl
+  go (Some first) = parts (id_at first.0) (id_at first.1)
+
+pub insert_kept : (form : Form) (peer : ℕ) (line name fields : List ℕ) → split 32 line ≡ Some (name, fields) → bytes_eq name (codes "i") ≡ true → op_verdict peer (kept_if (has_op form) (op_at line)) ≡ op_verdict peer (insert_at fields)
+unfolding op_at
+insert_kept form peer line name fields e first = rw (e, first) (ap (op_verdict peer) (kept_insert form fields))
+
+pub remove_kept : (form : Form) (peer : ℕ) (line name fields : List ℕ) → split 32 line ≡ Some (name, fields) → bytes_eq name (codes "i") ≡ false → bytes_eq name (codes "d") ≡ true → op_verdict peer (kept_if (has_op form) (op_at line)) ≡ op_verdict peer (remove_at fields)
+unfolding op_at
+remove_kept form peer line name fields e first second = rw (e, first, second) (ap (op_verdict peer) (kept_remove form fields))
+
+pub unmark_line : (form : Form) (peer : ℕ) (fields own rest name anchors : List ℕ) (read : Result ((Key × (Anchor × Anchor)) × OpId) LineFault) → split 32 fields ≡ Some (own, rest) → split 32 rest ≡ Some (name, anchors)
+    → read ≡ both (both (within key_within (kept_if (has_key form) (key_at name))) (within anchors_within (anchors_at anchors))) (within within_limits (id_at own))
+    → op_verdict peer (kept_if (has_op form) (unmark_at fields)) ≡ made read (λ x. owned peer (RemoveMark x.1 x.0.0 x.0.1.0 x.0.1.1))
 unfolding unmark_at unmarked_at
-unmark_line peer fields own rest name anchors read e f same =
-    rw (e, f, same) (go (id_at own) (key_at name) (anchors_at anchors)) where
-      go : (id : Option OpId) (key : Option Key) (anchors : Option (Anchor × Anchor))
-          → op_verdict peer (id >>= λ i. (key >>= λ k. anchors >>= λ n. Some (paired k n)) >>= λ u. Some (RemoveMark i u.0 u.1.0 u.1.1))
-          ≡ made (both (both (within key_within key) (within anchors_within anchors)) (within within_limits id)) (λ x. owned peer (RemoveMark x.1 x.0.0 x.0.1.0 x.0.1.1))
-      go id key anchors = regroup id key anchors ∙ marks_judged peer key_within (λ i k n. RemoveMark i k n.0 n.1) id key anchors (λ i k n. refl) (λ i k n. refl) where
-        regroup : (id : Option OpId) (key : Option Key) (anchors : Option (Anchor × Anchor))
-            → op_verdict peer (id >>= λ i. (key >>= λ k. anchors >>= λ n. Some (paired k n)) >>= λ u. Some (RemoveMark i u.0 u.1.0 u.1.1)) ≡ op_verdict peer (id >>= λ i. key >>= λ k. anchors >>= λ n. Some (RemoveMark i k n.0 n.1))
-        regroup None key anchors = refl
-        regroup (Some i) None anchors = refl
-        regroup (Some i) (Some k) None = refl
-        regroup (Some i) (Some k) (Some n) = refl
+unmark_line form peer fields own rest name anchors read e f same =
+    rw (e, f, same) (regroup (id_at own) (key_at name) (anchors_at anchors) ∙ marks_judged peer key_within (λ i k n. RemoveMark i k n.0 n.1) (id_at own) (kept_if (has_key form) (key_at name)) (anchors_at anchors) (λ i k n. refl) (λ i k n. refl)) where
+      nothing : (k : Key) (b : Bool) → Err BadLine ≡ op_verdict peer (cond b (Some k) None >>= λ k. None)
+      nothing k true = refl
+      nothing k false = refl
 
-mark_read : (peer : ℕ) (fields own rest name more value anchors : List ℕ) → split 32 fields ≡ Some (own, rest) → split 32 rest ≡ Some (name, more) → split 32 more ≡ Some (value, anchors)
-    → op_verdict peer (mark_at fields) ≡ made (both (both (within attribute_within (attribute_at name value)) (within anchors_within (anchors_at anchors))) (within within_limits (id_at own))) (λ x. owned peer (AddMark x.1 x.0.0 x.0.1.0 x.0.1.1))
+      all : (i : OpId) (k : Key) (n : Anchor × Anchor) (b : Bool) → op_verdict peer (cond b (Some (RemoveMark i k n.0 n.1)) None) ≡ op_verdict peer (cond b (Some k) None >>= λ k. Some (RemoveMark i k n.0 n.1))
+      all i k n true = refl
+      all i k n false = refl
+
+      regroup : (id : Option OpId) (key : Option Key) (anchors : Option (Anchor × Anchor))
+          → op_verdict peer (kept_if (has_op form) (id >>= λ i. (key >>= λ k. anchors >>= λ n. Some (paired k n)) >>= λ u. Some (RemoveMark i u.0 u.1.0 u.1.1))) ≡ op_verdict peer (id >>= λ i. kept_if (has_key form) key >>= λ k. anchors >>= λ n. Some (RemoveMark i k n.0 n.1))
+      regroup None key anchors = refl
+      regroup (Some i) None anchors = refl
+      regroup (Some i) (Some k) None = nothing k (has_key form k)
+      regroup (Some i) (Some k) (Some n) = all i k n (has_key form k)
+
+mark_read : (form : Form) (peer : ℕ) (fields own rest name more value anchors : List ℕ) → split 32 fields ≡ Some (own, rest) → split 32 rest ≡ Some (name, more) → split 32 more ≡ Some (value, anchors)
+    → op_verdict peer (kept_if (has_op form) (mark_at fields)) ≡ made (both (both (within attribute_within (kept_if (has_attribute form) (attribute_at name value))) (within anchors_within (anchors_at anchors))) (within within_limits (id_at own))) (λ x. owned peer (AddMark x.1 x.0.0 x.0.1.0 x.0.1.1))
 unfolding mark_at marked_at
-mark_read peer fields own rest name more value anchors e f g =
-    rw (e, f, g) (regroup (id_at own) (attribute_at name value) (anchors_at anchors) ∙ marks_judged peer attribute_within (λ i a n. AddMark i a n.0 n.1) (id_at own) (attribute_at name value) (anchors_at anchors) (λ i a n. refl) (λ i a n. refl)) where
+mark_read form peer fields own rest name more value anchors e f g =
+    rw (e, f, g) (regroup (id_at own) (attribute_at name value) (anchors_at anchors) ∙ marks_judged peer attribute_within (λ i a n. AddMark i a n.0 n.1) (id_at own) (kept_if (has_attribute form) (attribute_at name value)) (anchors_at anchors) (λ i a n. refl) (λ i a n. refl)) where
+      nothing : (a : Attribute) (b : Bool) → Err BadLine ≡ op_verdict peer (cond b (Some a) None >>= λ a. None)
+      nothing a true = refl
+      nothing a false = refl
+
+      all : (i : OpId) (a : Attribute) (n : Anchor × Anchor) (b : Bool) → op_verdict peer (cond b (Some (AddMark i a n.0 n.1)) None) ≡ op_verdict peer (cond b (Some a) None >>= λ a. Some (AddMark i a n.0 n.1))
+      all i a n true = refl
+      all i a n false = refl
+
       regroup : (id : Option OpId) (attribute : Option Attribute) (anchors : Option (Anchor × Anchor))
-          → op_verdict peer (id >>= λ i. (anchors >>= λ n. attribute >>= λ a. Some (paired a n)) >>= λ m. Some (AddMark i m.0 m.1.0 m.1.1)) ≡ op_verdict peer (id >>= λ i. attribute >>= λ a. anchors >>= λ n. Some (AddMark i a n.0 n.1))
+          → op_verdict peer (kept_if (has_op form) (id >>= λ i. (anchors >>= λ n. attribute >>= λ a. Some (paired a n)) >>= λ m. Some (AddMark i m.0 m.1.0 m.1.1))) ≡ op_verdict peer (id >>= λ i. kept_if (has_attribute form) attribute >>= λ a. anchors >>= λ n. Some (AddMark i a n.0 n.1))
       regroup None attribute anchors = refl
       regroup (Some i) None None = refl
       regroup (Some i) None (Some n) = refl
-      regroup (Some i) (Some a) None = refl
-      regroup (Some i) (Some a) (Some n) = refl
+      regroup (Some i) (Some a) None = nothing a (has_attribute form a)
+      regroup (Some i) (Some a) (Some n) = all i a n (has_attribute form a)
 
 -- where memory ran out, a part of no form is told all the same
 memory_told : (peer : ℕ) (id : Option OpId) (anchors : Option (Anchor × Anchor)) (attribute : Option Attribute)
@@ -180,32 +250,10 @@ memory_told peer (Some i) (Some n) attribute = inl (go (anchors_within n) (withi
   go false true = refl
   go false false = refl
 
-pub mark_line : (peer : ℕ) (fields own rest name more value anchors : List ℕ) (attribute : Result Attribute LineFault) (read : Result ((Attribute × (Anchor × Anchor)) × OpId) LineFault)
-    → split 32 fields ≡ Some (own, rest) → split 32 rest ≡ Some (name, more) → split 32 more ≡ Some (value, anchors) → Reads attribute (within attribute_within (attribute_at name value))
+pub mark_line : (form : Form) (peer : ℕ) (fields own rest name more value anchors : List ℕ) (attribute : Result Attribute LineFault) (read : Result ((Attribute × (Anchor × Anchor)) × OpId) LineFault)
+    → split 32 fields ≡ Some (own, rest) → split 32 rest ≡ Some (name, more) → split 32 more ≡ Some (value, anchors) → Reads attribute (within attribute_within (kept_if (has_attribute form) (attribute_at name value)))
     → read ≡ both (both attribute (within anchors_within (anchors_at anchors))) (within within_limits (id_at own))
-    → Reads (made read (λ x. owned peer (AddMark x.1 x.0.0 x.0.1.0 x.0.1.1))) (op_verdict peer (mark_at fields))
-mark_line peer fields own rest name more value anchors attribute read e f g (inr same) is = inr (rw (is, same) (sym (mark_read peer fields own rest name more value anchors e f g)))
-mark_line peer fields own rest name more value anchors attribute read e f g (inl memory) is =
-    rw (is, memory, mark_read peer fields own rest name more value anchors e f g) (memory_told peer (id_at own) (anchors_at anchors) (attribute_at name value))
-
--- the attribute of a comment
-
-bare_judged : (read : Option ℕ) (value : List ℕ) → within attribute_within (read >>= λ n. bare (attribute.Comment n) value) ≡ made (both (within is_comment_number read) (unvalued value)) (λ x. Ok (attribute.Comment x.0))
-bare_judged None value = go (bytes_eq value (codes "-")) where
-  go : (b : Bool) → Err BadLine ≡ made {A = ℕ × Unit {0}} {B = Attribute} (both (Err BadLine) (cond b (Ok tt) (Err BadLine))) (λ x. Ok (attribute.Comment x.0))
-  go true = refl
-  go false = refl
-bare_judged (Some n) value = go (bytes_eq value (codes "-")) (is_comment_number n) refl where
-  go : (b c : Bool) → is_comment_number n ≡ c → within attribute_within (cond b (Some (attribute.Comment n)) None) ≡ made (both (within is_comment_number (Some n)) (cond b (Ok tt) (Err BadLine))) (λ (x : ℕ × Unit {0}). Ok (attribute.Comment x.0))
-  go true true e = rw e refl
-  go true false e = rw e refl
-  go false true e = rw e refl
-  go false false e = rw e refl
-
-pub comment_attribute : (name value : List ℕ) → bytes_eq name (codes "strong") ≡ false → bytes_eq name (codes "em") ≡ false → bytes_eq name (codes "code") ≡ false → bytes_eq name (codes "link") ≡ false → bytes_eq name (codes "color") ≡ false
-    → within attribute_within (attribute_at name value) ≡ made (both (within is_comment_number (comment_at name)) (unvalued value)) (λ x. Ok (attribute.Comment x.0))
-unfolding attribute_at key_at value_at
-comment_attribute name value e f k g h = rw (e, f, k, g, h) (go (comment_at name)) where
-  go : (o : Option ℕ) → within attribute_within ((o >>= λ n. Some (key.Comment n)) >>= λ k. value_at k value) ≡ made (both (within is_comment_number o) (unvalued value)) (λ x. Ok (attribute.Comment x.0))
-  go None = bare_judged None value
-  go (Some n) = bare_judged (Some n) value
+    → Reads (made read (λ x. owned peer (AddMark x.1 x.0.0 x.0.1.0 x.0.1.1))) (op_verdict peer (kept_if (has_op form) (mark_at fields)))
+mark_line form peer fields own rest name more value anchors attribute read e f g (inr same) is = inr (rw (is, same) (sym (mark_read form peer fields own rest name more value anchors e f g)))
+mark_line form peer fields own rest name more value anchors attribute read e f g (inl memory) is =
+    rw (is, memory, mark_read form peer fields own rest name more value anchors e f g) (memory_told peer (id_at own) (anchors_at anchors) (kept_if (has_attribute form) (attribute_at name value)))

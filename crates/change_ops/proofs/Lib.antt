@@ -8,7 +8,9 @@ pub mod Loop
 pub mod Numerals
 pub mod Grammar
 pub mod Phrases
-pub mod Keys
+pub mod Places
+pub mod Tables
+pub mod KeyWords
 pub mod LineLaws
 pub mod RunLaws
 pub mod RoomLaws
@@ -21,7 +23,7 @@ pub mod FormLaws
 pub mod LineForms
 pub mod RefusalLaws
 pub mod FirstForms
-pub mod CodeLines
+pub mod LineVerdicts
 pub mod RunInserts
 pub mod IdRunOps
 pub mod IdRunReading

@@ -16,7 +16,7 @@ use Rattle.change_ops.specs.declared.line.Line.{Line}
 use Rattle.change_ops.specs.declared.line.Line.TheVariants.{Operation, Run as RunLine, Removals, Revivals}
 use Rattle.change_ops.proofs.Grammar.{Lacks, bind_some, split_again, split_takes}
 use Rattle.change_ops.proofs.Phrases.{same_bytes}
-use Rattle.change_ops.proofs.Keys.{lacks_printed, no_digit_below}
+use Rattle.change_ops.proofs.KeyWords.{lacks_printed, no_digit_below}
 use Rattle.change_ops.proofs.FormLaws.{joined_again, numeral_lacks, decimal_lacks, id_lacks, parent_lacks, id_form, id_read, parent_form, parent_read, code_form, code_read, op_form, op_read, lettered}
 use Rattle.change_ops.proofs.NumeralForms.{number_takes, number_again}
 use Rattle.change_ops.proofs.RunLaws.{not_none}

@@ -15,7 +15,7 @@ use Rattle.change_ops.specs.declared.operation.Op.{Op}
 use Rattle.change_ops.specs.declared.operation.Op.TheVariants.{Insert, Remove, AddMark, RemoveMark, Revive}
 use Rattle.change_ops.proofs.Grammar.{Lacks, bind_some, split_again, split_takes}
 use Rattle.change_ops.proofs.Phrases.{lacks_cons, lacks_joined, hex_again, hex_takes, hex_lacks, id_again, id_takes, id_lacks, parent_again, parent_takes, parent_lacks, anchor_again, anchor_takes, anchor_lacks, same_bytes}
-use Rattle.change_ops.proofs.Keys.{key_again, key_takes, key_lacks, attribute_again, attribute_takes, attribute_lacks}
+use Rattle.change_ops.proofs.KeyWords.{key_again, key_takes, key_lacks, attribute_again, attribute_takes, attribute_lacks}
 
 -- a word, and what stands behind its space
 first : (word rest : List ℕ) → Lacks 32 word → split 32 (word ␣ rest) ≡ Some (word, rest)

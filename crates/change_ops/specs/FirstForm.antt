@@ -1,10 +1,10 @@
 -- Changes of the first form: each of their lines is an operation, and they are read by these alone.
-use Rattle.std.specs.Prelude.{◌≡◌, ℕ, ◌≤◌, List, [], ◌∷◌, ◌++◌, map, length, codes, IsTrue, IsFalse}
+use Rattle.std.specs.Prelude.{◌≡◌, ℕ, ◌≤◌, List, [], ◌∷◌, ◌++◌, map, length, codes, IsTrue}
 use Rattle.std.specs.Fmt.{decimal}
 use Rattle.std.specs.List.{AllByRecursion}
 use Rattle.change_ops.specs.Limits.{op_within, has_character}
-use Rattle.change_ops.specs.Operations.{id_of, is_revival}
-use Rattle.change_ops.specs.Lines.{names_code}
+use Rattle.change_ops.specs.Operations.{id_of}
+use Rattle.change_ops.specs.Lines.{has_op}
 use Rattle.change_ops.specs.Changes.{Change, IsChange, operations}
 use Rattle.change_ops.specs.Spelling.{◌␣◌, op_text, change_text}
 use Rattle.change_ops.specs.declared.operation.Op.{Op}
@@ -20,13 +20,12 @@ ops_text (op ∷ ops) = op_text op ++ 10 ∷ ops_text ops
 abbrev pub spelled_out : ℕ → List Op → Change
 spelled_out node ops = record { form = First; node = node; lines = map Operation ops }
 
--- an operation of this peer, within the limits, of another key than code, that takes no removal back
+-- an operation of this peer that the first form has, within the limits
 pub record IsPlainOp (node : ℕ) (op : Op) : Type 0 where
   pub own : (id_of op).node ≡ node
   pub within : IsTrue (op_within op)
   pub character : IsTrue (has_character op)
-  pub other : IsFalse (names_code op)
-  pub kept : IsFalse (is_revival op)
+  pub had : IsTrue (has_op First op)
 
 -- 1 to 256 such operations
 pub record ArePlainOps (node : ℕ) (ops : List Op) : Type 0 where

@@ -1,6 +1,6 @@
 -- The grammar of a change's lines, of numbers of any size: which words and lines have a form, whatever reads them.
 use Rattle.std.specs.Prelude.{◌≡◌, ℕ, ◌+◌, ◌*◌, ◌^◌, ◌<◌, ◌≤◌, false, List, [], ◌∷◌, ◌++◌, map, length, Option, Some}
-use Rattle.std.specs.Prelude.{None, codes, ⊤, ◌↔◌, IsTrue}
+use Rattle.std.specs.Prelude.{None, codes, ⊤, ◌↔◌, IsTrue, slice_get}
 use Rattle.std.specs.List.{AllByRecursion}
 use Rattle.std.specs.Fmt.{digit_glyph}
 use Rattle.change_ops.specs.Ids.{OpId}
@@ -13,6 +13,11 @@ use Rattle.change_ops.specs.declared.attribute.Key.{Key}
 use Rattle.change_ops.specs.declared.attribute.Key.TheVariants as key
 use Rattle.change_ops.specs.declared.attribute.Attribute.{Attribute}
 use Rattle.change_ops.specs.declared.attribute.Attribute.TheVariants as attribute
+use Rattle.change_ops.specs.declared.value.Value.{Value}
+use Rattle.change_ops.specs.declared.value.Value.TheVariants as value
+use Rattle.change_ops.specs.Keys.{words, type_of_row}
+use Rattle.change_ops.specs.LineKinds.{kind_words}
+use Rattle.change_ops.specs.Values.{RowValue, type_of}
 use Rattle.change_ops.specs.declared.operation.Anchor.{Anchor}
 use Rattle.change_ops.specs.declared.operation.Anchor.TheVariants.{TextStart, BeforeCharacter, AfterCharacter, TextEnd}
 use Rattle.change_ops.specs.declared.operation.Op.{Op}
@@ -87,11 +92,7 @@ AnchorForm (AfterCharacter id) = SignedId 62 id
 AnchorForm TextEnd = Word (codes "$")
 
 abbrev pub KeyForm : Key → List ℕ → Type 0
-KeyForm key.Strong = Word (codes "strong")
-KeyForm key.Em = Word (codes "em")
-KeyForm key.Code = Word (codes "code")
-KeyForm key.Link = Word (codes "link")
-KeyForm key.Color = Word (codes "color")
+KeyForm (key.Row row) = λ word. slice_get words row ≡ Some word
 KeyForm (key.Comment number) = Joined 58 (Word (codes "comment")) (Numeral 10 number)
 
 -- printable bytes of ASCII other than the space, at least one
@@ -106,20 +107,27 @@ pub record ColorForm (rgb : ℕ) (word : List ℕ) : Type 0 where
   pub six : length digits ≡ 6
   pub spells : DigitsOf 16 rgb digits word
 
-abbrev pub ValueForm : Attribute → List ℕ → Type 0
-ValueForm attribute.Strong = Word (codes "-")
-ValueForm attribute.Em = Word (codes "-")
-ValueForm attribute.Code = Word (codes "-")
-ValueForm (attribute.Link target) = LinkForm target
-ValueForm (attribute.Color rgb) = ColorForm rgb
-ValueForm (attribute.Comment number) = Word (codes "-")
+abbrev pub ValueForm : Value → List ℕ → Type 0
+ValueForm value.Nothing = Word (codes "-")
+ValueForm (value.Link target) = LinkForm target
+ValueForm (value.Color rgb) = ColorForm rgb
+ValueForm (value.LineKind kind) = λ word. slice_get kind_words kind ≡ Some word
+
+-- the word of a value of the key's type
+pub record TypedForm (valued : RowValue) (word : List ℕ) : Type 0 where
+  pub typed : type_of valued.value ≡ type_of_row valued.row
+  pub spelled : ValueForm valued.value word
+
+abbrev pub AddedForm : Attribute → List ℕ → Type 0
+AddedForm (attribute.Row valued) = TypedForm valued
+AddedForm (attribute.Comment number) = Word (codes "-")
 
 -- an operation's line, without its LF
 abbrev pub OpForm : Op → List ℕ → Type 0
 OpForm (Insert id parent character) = Word (codes "i") ⎵ IdForm id ⎵ ParentForm parent ⎵ CodeForm character
 OpForm (Remove id target) = Word (codes "d") ⎵ IdForm id ⎵ IdForm target
 OpForm (AddMark id attribute start end) =
-    Word (codes "m") ⎵ IdForm id ⎵ KeyForm (key_of attribute) ⎵ ValueForm attribute ⎵ AnchorForm start ⎵ AnchorForm end
+    Word (codes "m") ⎵ IdForm id ⎵ KeyForm (key_of attribute) ⎵ AddedForm attribute ⎵ AnchorForm start ⎵ AnchorForm end
 OpForm (RemoveMark id key start end) = Word (codes "u") ⎵ IdForm id ⎵ KeyForm key ⎵ AnchorForm start ⎵ AnchorForm end
 OpForm (Revive id removal) = Word (codes "v") ⎵ IdForm id ⎵ IdForm removal
 

@@ -1,5 +1,8 @@
 pub mod Ids
+pub mod Keys
+pub mod LineKinds
 pub mod Attributes
+pub mod Values
 pub mod Operations
 pub mod Limits
 pub mod Runs

@@ -1,7 +1,9 @@
 -- The limits of what an operation names.
 use Rattle.std.specs.Prelude.{◌&&◌, Bool, true, Option, Some, None}
 use Rattle.change_ops.specs.Ids.{OpId, within_limits, is_character}
-use Rattle.change_ops.specs.Attributes.{is_color, is_comment_number, is_link}
+use Rattle.change_ops.specs.Keys.{is_row}
+use Rattle.change_ops.specs.Attributes.{is_comment_number}
+use Rattle.change_ops.specs.Values.{valued_within}
 use Rattle.change_ops.specs.declared.attribute.Key.{Key}
 use Rattle.change_ops.specs.declared.attribute.Key.TheVariants as key
 use Rattle.change_ops.specs.declared.attribute.Attribute.{Attribute}
@@ -25,19 +27,11 @@ abbrev pub anchors_within : Anchor × Anchor → Bool
 anchors_within anchors = anchor_within anchors.0 && anchor_within anchors.1
 
 abbrev pub key_within : Key → Bool
-key_within key.Strong = true
-key_within key.Em = true
-key_within key.Code = true
-key_within key.Link = true
-key_within key.Color = true
+key_within (key.Row row) = is_row row
 key_within (key.Comment number) = is_comment_number number
 
 abbrev pub attribute_within : Attribute → Bool
-attribute_within attribute.Strong = true
-attribute_within attribute.Em = true
-attribute_within attribute.Code = true
-attribute_within (attribute.Link target) = is_link target
-attribute_within (attribute.Color rgb) = is_color rgb
+attribute_within (attribute.Row valued) = valued_within valued
 attribute_within (attribute.Comment number) = is_comment_number number
 
 abbrev pub marked_within : Attribute × (Anchor × Anchor) → Bool

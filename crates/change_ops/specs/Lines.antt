@@ -1,18 +1,18 @@
 -- The lines of a change, and the operations that they mean.
-use Rattle.std.specs.Prelude.{ℕ, ◌+◌, not, ◌&&◌, Bool, true, false, List, [], ◌∷◌, ◌++◌, length}
+use Rattle.std.specs.Prelude.{ℕ, ◌+◌, Bool, true, List, [], ◌∷◌, ◌++◌, length}
 use Rattle.change_ops.specs.Limits.{op_within, has_character}
-use Rattle.change_ops.specs.Operations.{id_of, is_revival}
+use Rattle.change_ops.specs.Keys.{form_of, is_at_most}
+use Rattle.change_ops.specs.Operations.{id_of, key_of}
 use Rattle.change_ops.specs.Runs.{inserts_of, run_within, run_has_characters}
 use Rattle.change_ops.specs.IdRuns.{removals_of, revivals_of, id_run_within}
 use Rattle.change_ops.specs.declared.id.OpId.{OpId}
 use Rattle.change_ops.specs.declared.attribute.Key.{Key}
 use Rattle.change_ops.specs.declared.attribute.Key.TheVariants as key
 use Rattle.change_ops.specs.declared.attribute.Attribute.{Attribute}
-use Rattle.change_ops.specs.declared.attribute.Attribute.TheVariants as attribute
 use Rattle.change_ops.specs.declared.operation.Op.{Op}
 use Rattle.change_ops.specs.declared.operation.Op.TheVariants.{Insert, Remove, AddMark, RemoveMark, Revive}
 use Rattle.change_ops.specs.declared.line.Form.{Form}
-use Rattle.change_ops.specs.declared.line.Form.TheVariants.{First, Second, Third}
+use Rattle.change_ops.specs.declared.line.Form.TheVariants.{Second, Third}
 use Rattle.change_ops.specs.declared.line.Line.{Line}
 use Rattle.change_ops.specs.declared.line.Line.TheVariants.{Operation, Run, Removals, Revivals}
 
@@ -57,39 +57,25 @@ line_has_characters (Run run) = run_has_characters run
 line_has_characters (Removals run) = true
 line_has_characters (Revivals run) = true
 
-abbrev pub is_code : Key → Bool
-is_code key.Strong = false
-is_code key.Em = false
-is_code key.Code = true
-is_code key.Link = false
-is_code key.Color = false
-is_code (key.Comment number) = false
+-- changes of the form know the key; each form knows comments
+abbrev pub has_key : Form → Key → Bool
+has_key form (key.Row row) = is_at_most (form_of row) form
+has_key form (key.Comment number) = true
 
-abbrev pub adds_code : Attribute → Bool
-adds_code attribute.Strong = false
-adds_code attribute.Em = false
-adds_code attribute.Code = true
-adds_code (attribute.Link target) = false
-adds_code (attribute.Color rgb) = false
-adds_code (attribute.Comment number) = false
+abbrev pub has_attribute : Form → Attribute → Bool
+has_attribute form attribute = has_key form (key_of attribute)
 
--- the operation adds or removes the key code
-abbrev pub names_code : Op → Bool
-names_code (Insert id parent character) = false
-names_code (Remove id target) = false
-names_code (AddMark id attribute start end) = adds_code attribute
-names_code (RemoveMark id key start end) = is_code key
-names_code (Revive id removal) = false
+-- they have the operation: revivals are of the third form
+abbrev pub has_op : Form → Op → Bool
+has_op form (Insert id parent character) = true
+has_op form (Remove id target) = true
+has_op form (AddMark id attribute start end) = has_attribute form attribute
+has_op form (RemoveMark id key start end) = has_key form key
+has_op form (Revive id removal) = is_at_most Third form
 
--- the third form has all lines; the second has no revivals and no runs of removals; the first also has no runs of
--- characters and no line of the key code
+-- and the line: runs of characters are of the second form, those of removals and of revivals of the third
 abbrev pub has_line : Form → Line → Bool
-has_line First (Operation op) = not (names_code op) && not (is_revival op)
-has_line First (Run run) = false
-has_line First (Removals run) = false
-has_line First (Revivals run) = false
-has_line Second (Operation op) = not (is_revival op)
-has_line Second (Run run) = true
-has_line Second (Removals run) = false
-has_line Second (Revivals run) = false
-has_line Third line = true
+has_line form (Operation op) = has_op form op
+has_line form (Run run) = is_at_most Second form
+has_line form (Removals run) = is_at_most Third form
+has_line form (Revivals run) = is_at_most Third form

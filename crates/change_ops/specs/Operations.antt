@@ -11,11 +11,7 @@ use Rattle.change_ops.specs.declared.operation.Op.{Op}
 use Rattle.change_ops.specs.declared.operation.Op.TheVariants.{Insert, Remove, AddMark, RemoveMark, Revive}
 
 abbrev pub key_of : Attribute → Key
-key_of attribute.Strong = key.Strong
-key_of attribute.Em = key.Em
-key_of attribute.Code = key.Code
-key_of (attribute.Link target) = key.Link
-key_of (attribute.Color rgb) = key.Color
+key_of (attribute.Row valued) = key.Row valued.row
 key_of (attribute.Comment number) = key.Comment number
 
 abbrev pub id_of : Op → OpId

@@ -1,8 +1,9 @@
 -- What a line spells, and the first fault of a line.
-use Rattle.std.specs.Prelude.{◌≡◌, ◌⊎◌, ℕ, zero, suc, nat_lt, nat_le, ◌==◌, ◌+◌, ◌^◌, ◌&&◌, ◌||◌, not, Bool, false}
+use Rattle.std.specs.Prelude.{◌≡◌, ◌⊎◌, ℕ, zero, suc, nat_lt, nat_le, ◌==◌, ◌+◌, ◌^◌, ◌&&◌, not, Bool, false}
 use Rattle.std.specs.Prelude.{if◌then◌else◌, List, [], ◌∷◌, ◌++◌, length, Option, Some, None, Result, Ok, Err}
 use Rattle.std.specs.Prelude.{option_and_then, is_some, codes}
 use Rattle.std.specs.List.{list_all}
+use Rattle.std.specs.Option.{option_map}
 use Rattle.std.specs.Str.{bytes_eq}
 use Rattle.std.specs.Borrow.{Bor}
 use Rattle.change_ops.specs.Ids.{OpId, within_limits, is_character, checked}
@@ -11,13 +12,19 @@ use Rattle.change_ops.specs.Limits.{parent_within, op_within, has_character}
 use Rattle.change_ops.specs.Operations.{id_of}
 use Rattle.change_ops.specs.Runs.{Run, run_within, run_has_characters}
 use Rattle.change_ops.specs.IdRuns.{IdRun, id_run_within}
-use Rattle.change_ops.specs.Lines.{first_id, line_within, line_has_characters, has_line}
+use Rattle.change_ops.specs.Lines.{first_id, line_within, line_has_characters, has_line, has_op}
 use Rattle.change_ops.specs.Rooms.{line_fits}
 use Rattle.change_ops.specs.Words.{split, number_in, digits_after, saturated}
 use Rattle.change_ops.specs.declared.attribute.Key.{Key}
 use Rattle.change_ops.specs.declared.attribute.Key.TheVariants as key
 use Rattle.change_ops.specs.declared.attribute.Attribute.{Attribute}
 use Rattle.change_ops.specs.declared.attribute.Attribute.TheVariants as attribute
+use Rattle.change_ops.specs.declared.value.Value.{Value}
+use Rattle.change_ops.specs.declared.value.Value.TheVariants as value
+use Rattle.change_ops.specs.declared.keys.ValueType.{ValueType}
+use Rattle.change_ops.specs.declared.keys.ValueType.TheVariants as type
+use Rattle.change_ops.specs.Keys.{row_at, type_of_row}
+use Rattle.change_ops.specs.LineKinds.{kind_at}
 use Rattle.change_ops.specs.declared.operation.Anchor.{Anchor}
 use Rattle.change_ops.specs.declared.operation.Anchor.TheVariants.{TextStart, BeforeCharacter, AfterCharacter, TextEnd}
 use Rattle.change_ops.specs.declared.operation.Op.{Op}
@@ -80,15 +87,13 @@ comment_at word = do
   parts ← split 58 word
   if bytes_eq parts.0 (codes "comment") then number_in 10 parts.1 else None
 
+abbrev pub row_or_comment : Option ℕ → Option ℕ → Option Key
+row_or_comment (Some row) comment = Some (key.Row row)
+row_or_comment None comment = option_map key.Comment comment
+
+-- a key: the word of a row, or a comment
 unfoldable pub key_at : List ℕ → Option Key
-key_at word =
-    if bytes_eq word (codes "strong") then Some key.Strong else
-    if bytes_eq word (codes "em") then Some key.Em else
-    if bytes_eq word (codes "code") then Some key.Code else
-    if bytes_eq word (codes "link") then Some key.Link else
-    if bytes_eq word (codes "color") then Some key.Color else (do
-      number ← comment_at word
-      Some (key.Comment number))
+key_at word = row_or_comment (row_at word) (comment_at word)
 
 -- a color: six digits
 unfoldable pub color_at : List ℕ → Option ℕ
@@ -98,27 +103,30 @@ color_at word = if length word == 6 then digits_after 16 0 word else None
 unfoldable pub link_at : List ℕ → Option (List ℕ)
 link_at word = if nat_lt 0 (length word) && list_all is_link_byte word then Some word else None
 
--- the attribute of a key that has no value
-abbrev pub bare : Attribute → List ℕ → Option Attribute
-bare attribute word = if bytes_eq word (codes "-") then Some attribute else None
+-- the word of no value
+abbrev pub bare : {A : Type 0} → A → List ℕ → Option A
+bare x word = if bytes_eq word (codes "-") then Some x else None
 
-unfoldable pub value_at : Key → List ℕ → Option Attribute
-value_at key.Strong word = bare attribute.Strong word
-value_at key.Em word = bare attribute.Em word
-value_at key.Code word = bare attribute.Code word
-value_at key.Link word = do
-  target ← link_at word
-  Some (attribute.Link target)
-value_at key.Color word = do
-  rgb ← color_at word
-  Some (attribute.Color rgb)
-value_at (key.Comment number) word = bare (attribute.Comment number) word
+-- a value of a type
+unfoldable pub value_at : ValueType → List ℕ → Option Value
+value_at type.Nothing word = bare value.Nothing word
+value_at type.Link word = option_map value.Link (link_at word)
+value_at type.Color word = option_map value.Color (color_at word)
+value_at type.LineKind word = option_map value.LineKind (kind_at word)
+
+abbrev pub valued : ℕ → Value → Attribute
+valued row value = attribute.Row (record { row = row; value = value })
+
+-- what a mark of the key adds
+abbrev pub added_at : Key → List ℕ → Option Attribute
+added_at (key.Row row) word = option_map (valued row) (value_at (type_of_row row) word)
+added_at (key.Comment number) word = bare (attribute.Comment number) word
 
 -- an attribute, by the words of its key and its value
 unfoldable pub attribute_at : List ℕ → List ℕ → Option Attribute
 attribute_at name value = do
   key ← key_at name
-  value_at key value
+  added_at key value
 
 unfoldable pub insert_at : List ℕ → Option Op
 insert_at fields = do
@@ -272,6 +280,11 @@ header_at line = do
   count ← number_in 10 second.1
   Some (form, node, count)
 
+-- what passes a test, if there is something
+abbrev pub kept_if : {A : Type 0} → (A → Bool) → Option A → Option A
+kept_if test None = None
+kept_if test (Some x) = if test x then Some x else None
+
 -- what has a form, or the fault of what has none
 abbrev pub formed : {A : Type 0} → Option A → Result A LineFault
 formed None = Err BadLine
@@ -397,29 +410,11 @@ ReadsAs view (Err CharRefused) wanted = wanted ≡ Err CharRefused
 ReadsAs view (Err WrongPeer) wanted = wanted ≡ Err WrongPeer
 ReadsAs view (Err OutOfMemory) wanted = Unit {0}
 
--- the line of a mark, or of a removal of one, that names the key code
-unfoldable pub is_of_code : List ℕ → Bool
-is_of_code line =
-    given (split 32 line)
-    (λ first. given (split 32 first.1)
-    (λ second. given (split 32 second.1) (λ third. (bytes_eq first.0 (codes "m") || bytes_eq first.0 (codes "u"))
-    && bytes_eq third.0 (codes "code"))))
-
--- the line of an operation that takes a removal back
-unfoldable pub is_of_revival : List ℕ → Bool
-is_of_revival line = given (split 32 line) (λ first. bytes_eq first.0 (codes "v"))
-
--- a line that a change of this form has not, though it may be one of an operation
-abbrev pub lacks_line : Form → List ℕ → Bool
-lacks_line First line = is_of_code line || is_of_revival line
-lacks_line Second line = is_of_revival line
-lacks_line Third line = false
-
 -- an operation's line of a peer's change of this form with room for `room` operations
 abbrev pub op_verdict_in : Form → ℕ → ℕ → Option Op → Result Op LineFault
 op_verdict_in form peer room None = Err BadLine
 op_verdict_in form peer room (Some op) =
-    if not (has_line form (Operation op)) then Err BadLine else
+    if not (has_op form op) then Err BadLine else
     if not (nat_le 1 room) then Err Limit else op_judged peer op
 
 -- where there is no room: the fault of what has no form, else the room's

@@ -10,6 +10,10 @@ use Rattle.change_ops.specs.declared.attribute.Key.{Key}
 use Rattle.change_ops.specs.declared.attribute.Key.TheVariants as key
 use Rattle.change_ops.specs.declared.attribute.Attribute.{Attribute}
 use Rattle.change_ops.specs.declared.attribute.Attribute.TheVariants as attribute
+use Rattle.change_ops.specs.declared.value.Value.{Value}
+use Rattle.change_ops.specs.declared.value.Value.TheVariants as value
+use Rattle.change_ops.specs.Keys.{word_of}
+use Rattle.change_ops.specs.LineKinds.{word_of_kind}
 use Rattle.change_ops.specs.declared.operation.Anchor.{Anchor}
 use Rattle.change_ops.specs.declared.operation.Anchor.TheVariants.{TextStart, BeforeCharacter, AfterCharacter, TextEnd}
 use Rattle.change_ops.specs.declared.operation.Op.{Op}
@@ -50,20 +54,18 @@ anchor_text (AfterCharacter id) = 62 ∷ id_text id
 anchor_text TextEnd = codes "$"
 
 abbrev pub key_text : Key → List ℕ
-key_text key.Strong = codes "strong"
-key_text key.Em = codes "em"
-key_text key.Code = codes "code"
-key_text key.Link = codes "link"
-key_text key.Color = codes "color"
+key_text (key.Row row) = word_of row
 key_text (key.Comment number) = codes "comment" ++ 58 ∷ decimal number
+
+abbrev pub value_text : Value → List ℕ
+value_text value.Nothing = codes "-"
+value_text (value.Link target) = target
+value_text (value.Color rgb) = last_digits 6 rgb
+value_text (value.LineKind kind) = word_of_kind kind
 
 -- a key, and its value
 abbrev pub attribute_text : Attribute → List ℕ
-attribute_text attribute.Strong = codes "strong" ␣ codes "-"
-attribute_text attribute.Em = codes "em" ␣ codes "-"
-attribute_text attribute.Code = codes "code" ␣ codes "-"
-attribute_text (attribute.Link target) = codes "link" ␣ target
-attribute_text (attribute.Color rgb) = codes "color" ␣ last_digits 6 rgb
+attribute_text (attribute.Row valued) = word_of valued.row ␣ value_text valued.value
 attribute_text (attribute.Comment number) = (codes "comment" ++ 58 ∷ decimal number) ␣ codes "-"
 
 -- an operation's line, without its LF

@@ -8,6 +8,8 @@ ghost use Rattle.std.specs.Cmp.Lexicographic.{pointwise, nat_list_eq_equiv};
 ghost use Rattle.change_ops.specs.Ids.{checked};
 ghost use Rattle.change_ops.specs.Attributes.{is_color, is_comment_number, is_link, is_link_byte};
 
+use crate::keys::KeyRow;
+use crate::row_value::RowValue;
 use std::alloc::{AllocError, Global};
 use std::marker::Model;
 use std::sync::ArcStr;
@@ -193,31 +195,23 @@ impl CommentNumber {
 /// What a mark says something about: marks of different keys stand together.
 #[derive(Clone, Copy, PartialEq, Eq)]
 pub enum Key {
-    Strong,
-    Em,
-    Code,
-    Link,
-    Color,
+    /// A key of one value.
+    Row(KeyRow),
     Comment(CommentNumber),
 }
 
 /// A key with its value, as a mark adds it.
 #[derive(Clone)]
 pub enum Attribute {
-    Strong,
-    Em,
-    Code,
-    Link(Link),
-    Color(Color),
+    Row(RowValue),
     Comment(CommentNumber),
 }
 
 impl Drop for Attribute {
     fn drop(self) {
         match self {
-            Attribute::Link(_) => {}
-            Attribute::Strong | Attribute::Em | Attribute::Code => {}
-            Attribute::Color(_) | Attribute::Comment(_) => {}
+            Attribute::Row(_) => {}
+            Attribute::Comment(_) => {}
         }
     }
 }
@@ -230,11 +224,7 @@ impl Attribute {
         ensures { result ≡ key_of self.now }
     {
         match self {
-            Attribute::Strong => Key::Strong,
-            Attribute::Em => Key::Em,
-            Attribute::Code => Key::Code,
-            Attribute::Link(_) => Key::Link,
-            Attribute::Color(_) => Key::Color,
+            Attribute::Row(valued) => Key::Row(valued.row()),
             Attribute::Comment(number) => Key::Comment(*number),
         }
     }

@@ -1,21 +1,29 @@
 //! The words of an operation's line: each reader answers what a word or several spell, if they have the
 //! form and are within the limits.
-ghost use Rattle.std.specs.Prelude.{◌≡◌};
+ghost use Rattle.std.specs.Prelude.{◌≡◌, IfOk, IsTrue};
 ghost use Rattle.change_ops.specs.Ids.{within_limits};
 ghost use Rattle.change_ops.specs.Attributes.{is_color, is_comment_number, is_link};
+ghost use Rattle.change_ops.specs.Values.{is_of_type, value_within};
 ghost use Rattle.change_ops.specs.Limits.{parent_within, anchor_within, anchors_within, key_within, attribute_within};
 ghost use Rattle.std.specs.Option.{option_map};
 ghost use Rattle.change_ops.specs.Words.{saturated};
 ghost use Rattle.change_ops.specs.Reading.{id_at, hex_at, parent_at, anchor_at, comment_at, key_at, color_at, link_at};
-ghost use Rattle.change_ops.specs.Reading.{attribute_at, anchors_at, formed, within, unvalued, encoded};
+ghost use Rattle.change_ops.specs.Lines.{has_attribute, has_key};
+ghost use Rattle.change_ops.specs.Reading.{attribute_at, value_at, anchors_at, formed, within, unvalued, encoded};
+ghost use Rattle.change_ops.specs.Reading.{kept_if};
 ghost use Rattle.change_ops.specs.Reading.{both as both_parts, Reads};
 
 use crate::attribute::{Attribute, Color, CommentNumber, Key, Link, are_target_bytes};
 use crate::character::Character;
 use crate::id::OpId;
+use crate::keys::{KeyRow, ValueType};
+use crate::line::Form;
+use crate::line_kind::LineKind;
 use crate::numbers::{after_sign, digits, name_of, number, parts_of, word_of};
 use crate::operation::Anchor;
 use crate::refusal::LineFault;
+use crate::row_value::RowValue;
+use crate::value::Value;
 use std::alloc::Global;
 
 /// Two parts of a line, or the fault that is told: a part's that is of no form before any other, and
@@ -121,24 +129,19 @@ fn comment_of(word: &str) -> Result<CommentNumber, LineFault>
     CommentNumber::new(number).ok_or(LineFault::Limit)
 }
 
-/// A key.
+/// A key that changes of the form know.
 #[tactic(auto, unfolding(crate::specs::Reading::key_at))]
-pub fn key_of(word: &str) -> Result<Key, LineFault>
-    ensures { result ≡ within key_within (key_at word.now) }
+pub fn key_of(form: Form, word: &str) -> Result<Key, LineFault>
+    ensures { result ≡ within key_within (kept_if (has_key form) (key_at word.now)) }
 {
-    if word == "strong" {
-        Ok(Key::Strong)
-    } else if word == "em" {
-        Ok(Key::Em)
-    } else if word == "code" {
-        Ok(Key::Code)
-    } else if word == "link" {
-        Ok(Key::Link)
-    } else if word == "color" {
-        Ok(Key::Color)
-    } else {
+    let Some(row) = KeyRow::named(word) else {
         let number = comment_of(word)?;
-        Ok(Key::Comment(number))
+        return Ok(Key::Comment(number));
+    };
+    if form.has(row.form()) {
+        Ok(Key::Row(row))
+    } else {
+        Err(LineFault::BadLine)
     }
 }
 
@@ -176,28 +179,52 @@ fn no_value(word: &str) -> Result<(), LineFault>
     }
 }
 
-/// An attribute, by its key and its value.
-#[tactic(auto, unfolding(crate::specs::Reading::attribute_at, crate::specs::Reading::key_at, crate::specs::Reading::value_at))]
-pub fn attribute_of(alloc: Global, name: &str, value: &str) -> Result<Attribute, LineFault>
-    ensures { Reads result (within attribute_within (attribute_at name.now value.now)) }
+/// A value of a type.
+#[tactic(auto, unfolding(crate::specs::Reading::value_at))]
+fn value_of(alloc: Global, value_type: ValueType, word: &str) -> Result<Value, LineFault>
+    ensures value { Reads result (within value_within (value_at value_type word.now)) }
+    ensures typed { IfOk result (λ value. IsTrue (is_of_type value_type value)) }
 {
-    if name == "strong" {
-        no_value(value)?;
-        Ok(Attribute::Strong)
-    } else if name == "em" {
-        no_value(value)?;
-        Ok(Attribute::Em)
-    } else if name == "code" {
-        no_value(value)?;
-        Ok(Attribute::Code)
-    } else if name == "link" {
-        let link = link_of(alloc, value)?;
-        Ok(Attribute::Link(link))
-    } else if name == "color" {
-        let color = color_of(value)?;
-        Ok(Attribute::Color(color))
-    } else {
-        let (number, ()) = both(comment_of(name), no_value(value))?;
-        Ok(Attribute::Comment(number))
+    match value_type {
+        ValueType::Nothing => {
+            no_value(word)?;
+            Ok(Value::Nothing)
+        }
+        ValueType::Link => {
+            let link = link_of(alloc, word)?;
+            Ok(Value::Link(link))
+        }
+        ValueType::Color => {
+            let color = color_of(word)?;
+            Ok(Value::Color(color))
+        }
+        ValueType::LineKind => {
+            let kind = LineKind::named(word).ok_or(LineFault::BadLine)?;
+            Ok(Value::LineKind(kind))
+        }
     }
+}
+
+/// An attribute, by its key and its value, that changes of the form know.
+#[tactic(auto, unfolding(crate::specs::Reading::attribute_at, crate::specs::Reading::key_at))]
+pub fn attribute_of(
+    alloc: Global,
+    form: Form,
+    name: &str,
+    value: &str,
+) -> Result<Attribute, LineFault>
+    ensures { Reads result (within attribute_within (kept_if (has_attribute form) (attribute_at name.now value.now))) }
+{
+    let Some(row) = KeyRow::named(name) else {
+        let (number, ()) = both(comment_of(name), no_value(value))?;
+        return Ok(Attribute::Comment(number));
+    };
+    if !form.has(row.form()) {
+        return Err(LineFault::BadLine);
+    }
+    let value = value_of(alloc, row.value_type(), value)?;
+    let Some(valued) = RowValue::new(row, value) else {
+        unreachable!();
+    };
+    Ok(Attribute::Row(valued))
 }

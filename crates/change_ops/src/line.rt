@@ -1,5 +1,6 @@
 //! The lines of a change.
 ghost use Rattle.std.specs.Prelude.{◌≡◌, ◌≤◌, length};
+ghost use Rattle.change_ops.specs.Keys.{is_at_most};
 ghost use Rattle.change_ops.specs.Lines.{ops_of, count_of};
 
 use crate::id_run::IdRun;
@@ -9,12 +10,25 @@ use std::alloc::Global;
 use std::default::MadeWith;
 
 /// The form of a change: the second has lines that the first has not, runs and those of the key code, and the third
-/// also those that take removals back and runs of removals.
+/// also those that take removals back, runs of removals, and those of further keys.
 #[derive(Clone, Copy, PartialEq, Eq)]
 pub enum Form {
     First,
     Second,
     Third,
+}
+
+impl Form {
+    /// Whether changes of this form have what those of the other one have.
+    pub fn has(self, other: Form) -> bool
+        ensures { result ≡ is_at_most other self }
+    {
+        match self {
+            Form::First => matches!(other, Form::First),
+            Form::Second => !matches!(other, Form::Third),
+            Form::Third => true,
+        }
+    }
 }
 
 /// A line of a change: one operation, the inserts of a run, or a run of removals or of revivals.

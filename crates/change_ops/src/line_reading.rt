@@ -2,9 +2,9 @@
 ghost use Rattle.std.specs.Prelude.{◌≡◌, ◌≤◌};
 ghost use Rattle.change_ops.specs.Reading.{insert_at, remove_at, mark_at, unmark_at, revive_at, op_at};
 ghost use Rattle.change_ops.specs.Reading.{owned as owned_verdict};
-ghost use Rattle.change_ops.specs.Reading.{op_verdict, op_verdict_in, unless_formless, is_of_code as is_of_code_line};
-ghost use Rattle.change_ops.specs.Reading.{is_of_revival as is_of_revival_line};
-ghost use Rattle.change_ops.specs.Reading.{lacks_line as is_lacking, run_at, run_verdict_in, line_in, line_verdict};
+ghost use Rattle.change_ops.specs.Lines.{has_op};
+ghost use Rattle.change_ops.specs.Reading.{kept_if, op_verdict, op_verdict_in, unless_formless};
+ghost use Rattle.change_ops.specs.Reading.{run_at, run_verdict_in, line_in, line_verdict};
 ghost use Rattle.change_ops.specs.Reading.{id_run_at, id_run_verdict_in};
 ghost use Rattle.change_ops.specs.Reading.{Reads};
 
@@ -59,13 +59,13 @@ fn remove_of(peer: u16, fields: &str) -> Result<Op, LineFault>
 }
 
 #[tactic(auto, unfolding(crate::specs::Reading::mark_at, crate::specs::Reading::marked_at))]
-fn mark_of(alloc: Global, peer: u16, fields: &str) -> Result<Op, LineFault>
-    ensures { Reads result (op_verdict peer (mark_at fields.now)) }
+fn mark_of(alloc: Global, form: Form, peer: u16, fields: &str) -> Result<Op, LineFault>
+    ensures { Reads result (op_verdict peer (kept_if (has_op form) (mark_at fields.now))) }
 {
     let (id, fields) = word_of(fields)?;
     let (name, fields) = word_of(fields)?;
     let (value, fields) = word_of(fields)?;
-    let marked = both(attribute_of(alloc, name, value), anchors_of(fields));
+    let marked = both(attribute_of(alloc, form, name, value), anchors_of(fields));
     let ((attribute, (start, end)), id) = both(marked, id_of(id))?;
     owned(
         peer,
@@ -79,12 +79,12 @@ fn mark_of(alloc: Global, peer: u16, fields: &str) -> Result<Op, LineFault>
 }
 
 #[tactic(auto, unfolding(crate::specs::Reading::unmark_at, crate::specs::Reading::unmarked_at))]
-fn unmark_of(peer: u16, fields: &str) -> Result<Op, LineFault>
-    ensures { result ≡ op_verdict peer (unmark_at fields.now) }
+fn unmark_of(form: Form, peer: u16, fields: &str) -> Result<Op, LineFault>
+    ensures { result ≡ op_verdict peer (kept_if (has_op form) (unmark_at fields.now)) }
 {
     let (id, fields) = word_of(fields)?;
     let (name, fields) = word_of(fields)?;
-    let unmarked = both(key_of(name), anchors_of(fields));
+    let unmarked = both(key_of(form, name), anchors_of(fields));
     let ((key, (start, end)), id) = both(unmarked, id_of(id))?;
     owned(
         peer,
@@ -98,18 +98,21 @@ fn unmark_of(peer: u16, fields: &str) -> Result<Op, LineFault>
 }
 
 #[tactic(auto, unfolding(crate::specs::Reading::revive_at))]
-fn revive_of(peer: u16, fields: &str) -> Result<Op, LineFault>
-    ensures { result ≡ op_verdict peer (revive_at fields.now) }
+fn revive_of(form: Form, peer: u16, fields: &str) -> Result<Op, LineFault>
+    ensures { result ≡ op_verdict peer (kept_if (has_op form) (revive_at fields.now)) }
 {
+    if !form.has(Form::Third) {
+        return Err(LineFault::BadLine);
+    }
     let (id, removal) = word_of(fields)?;
     let (id, removal) = both(id_of(id), id_of(removal))?;
     owned(peer, Op::Revive { id, removal })
 }
 
-/// The operation of a line of a peer's change, or the line's first fault.
+/// The operation of a line of a peer's change of this form, or the line's first fault.
 #[tactic(auto, unfolding(crate::specs::Reading::op_at))]
-fn op_of(alloc: Global, peer: u16, line: &str) -> Result<Op, LineFault>
-    ensures { Reads result (op_verdict peer (op_at line.now)) }
+fn op_of(alloc: Global, form: Form, peer: u16, line: &str) -> Result<Op, LineFault>
+    ensures { Reads result (op_verdict peer (kept_if (has_op form) (op_at line.now))) }
 {
     let (kind, fields) = word_of(line)?;
     if kind == "i" {
@@ -117,11 +120,11 @@ fn op_of(alloc: Global, peer: u16, line: &str) -> Result<Op, LineFault>
     } else if kind == "d" {
         remove_of(peer, fields)
     } else if kind == "m" {
-        mark_of(alloc, peer, fields)
+        mark_of(alloc, form, peer, fields)
     } else if kind == "u" {
-        unmark_of(peer, fields)
+        unmark_of(form, peer, fields)
     } else if kind == "v" {
-        revive_of(peer, fields)
+        revive_of(form, peer, fields)
     } else {
         Err(LineFault::BadLine)
     }
@@ -139,54 +142,12 @@ fn without_room(read: Result<Op, LineFault>) -> LineFault
     }
 }
 
-/// Whether a mark's line, or the line of a removal of one, names the key code.
-#[tactic(auto, unfolding(crate::specs::Reading::is_of_code))]
-fn is_of_code(line: &str) -> bool
-    ensures { result ≡ is_of_code_line line.now }
-{
-    let Ok((kind, fields)) = word_of(line) else {
-        return false;
-    };
-    let Ok((_, fields)) = word_of(fields) else {
-        return false;
-    };
-    let Ok((key, _)) = word_of(fields) else {
-        return false;
-    };
-    (kind == "m" || kind == "u") && key == "code"
-}
-
-/// Whether a line takes a removal back.
-#[tactic(auto, unfolding(crate::specs::Reading::is_of_revival))]
-fn is_of_revival(line: &str) -> bool
-    ensures { result ≡ is_of_revival_line line.now }
-{
-    let Ok((kind, _)) = word_of(line) else {
-        return false;
-    };
-    kind == "v"
-}
-
-/// Whether a change of this form has no such line, though it may be one of an operation.
-fn lacks_line(form: Form, line: &str) -> bool
-    ensures { result ≡ is_lacking form line.now }
-{
-    match form {
-        Form::First => is_of_code(line) || is_of_revival(line),
-        Form::Second => is_of_revival(line),
-        Form::Third => false,
-    }
-}
-
 /// The operation of a line of a peer's change of this form, with room for `room` operations, or the line's first fault.
-#[tactic(auto, using(crate::proofs::CodeLines::lacked, crate::proofs::CodeLines::no_room, crate::proofs::CodeLines::some_room))]
+#[tactic(auto, using(crate::proofs::LineVerdicts::no_room, crate::proofs::LineVerdicts::some_room))]
 fn op_in(alloc: Global, form: Form, peer: u16, room: usize, line: &str) -> Result<Op, LineFault>
     ensures { Reads result (op_verdict_in form peer room (op_at line.now)) }
 {
-    if lacks_line(form, line) {
-        return Err(LineFault::BadLine);
-    }
-    let read = op_of(alloc, peer, line);
+    let read = op_of(alloc, form, peer, line);
     if room == 0 {
         return Err(without_room(read));
     }

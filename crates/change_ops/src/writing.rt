@@ -1,7 +1,8 @@
 //! Writing the text of a change.
 ghost use Rattle.std.specs.Prelude.{◌≡◌, ◌++◌, [], ◌∷◌, OnOk, OnErr};
 ghost use Rattle.std.specs.String.{string_bytes};
-ghost use Rattle.change_ops.specs.Spelling.{◌␣◌, id_text, parent_text, anchor_text, key_text, attribute_text, op_text};
+ghost use Rattle.change_ops.specs.Spelling.{◌␣◌, id_text, parent_text, anchor_text, key_text, value_text};
+ghost use Rattle.change_ops.specs.Spelling.{attribute_text, op_text};
 ghost use Rattle.change_ops.specs.Spelling.{codes_text, run_text, id_run_text, line_text, lines_text};
 ghost use Rattle.change_ops.specs.Spelling.{form_text, header_text, change_text};
 
@@ -13,6 +14,7 @@ use crate::id_run::IdRun;
 use crate::line::{Form, Line};
 use crate::operation::{Anchor, Op};
 use crate::run::Run;
+use crate::value::Value;
 use std::alloc::AllocError;
 use std::fmt::Write;
 
@@ -52,25 +54,32 @@ fn write_key(key: Key, out: &mut String) -> Result<(), AllocError>
     ensures { OnOk result (string_bytes out.new ≡ string_bytes out.old ++ key_text key) }
 {
     match key {
-        Key::Strong => out.push_str("strong"),
-        Key::Em => out.push_str("em"),
-        Key::Code => out.push_str("code"),
-        Key::Link => out.push_str("link"),
-        Key::Color => out.push_str("color"),
+        Key::Row(row) => out.push_str(row.word()),
         Key::Comment(number) => write!(out, "comment:{}", number.number()),
     }
 }
 
 #[tactic(auto, using(crate::proofs::Numerals::six_written))]
+fn write_value(value: &Value, out: &mut String) -> Result<(), AllocError>
+    ensures { OnOk result (string_bytes out.new ≡ string_bytes out.old ++ value_text value.now) }
+{
+    match value {
+        Value::Nothing => out.push('-'),
+        Value::Link(link) => out.push_str(link.target()),
+        Value::Color(color) => write!(out, "{:06x}", color.rgb()),
+        Value::LineKind(kind) => out.push_str(kind.word()),
+    }
+}
+
 fn write_attribute(attribute: &Attribute, out: &mut String) -> Result<(), AllocError>
     ensures { OnOk result (string_bytes out.new ≡ string_bytes out.old ++ attribute_text attribute.now) }
 {
     match attribute {
-        Attribute::Strong => out.push_str("strong -"),
-        Attribute::Em => out.push_str("em -"),
-        Attribute::Code => out.push_str("code -"),
-        Attribute::Link(link) => write!(out, "link {}", link.target()),
-        Attribute::Color(color) => write!(out, "color {:06x}", color.rgb()),
+        Attribute::Row(valued) => {
+            out.push_str(valued.row().word())?;
+            out.push(' ')?;
+            write_value(valued.value(), out)
+        }
         Attribute::Comment(number) => write!(out, "comment:{} -", number.number()),
     }
 }

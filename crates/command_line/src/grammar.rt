@@ -94,7 +94,12 @@ Example, of two changes of one peer:
     i 1@1 - 48
     i 2@1 1@1 6d";
 
-const AFTER_REPLAY: &str = "Lines of a session, and what answers each:
+/// The help behind the options of `replay` and of `serve`: the lines of a session and what answers each, and then
+/// what the command alone says.
+macro_rules! session_help {
+    ($command:literal) => {
+        concat!(
+            "Lines of a session, and what answers each:
 
     the lines of a change            ok version <n>
     sub <capacity> <hex> [from <n>]  ok sub <id>
@@ -109,43 +114,32 @@ With --read also:
     pull <id> <k>                    ok items 0 full, once no item comes any more
     latest                           ok latest <n>
     show <version> <first> <k>       span <index> <format> <text>, ..; ok spans <n>
+    show3 <version> <first> <k>      the same, with the keys of the third form too
     changes <from> <k>               the changes; ok changes <m>
     newest <node>                    ok newest <counter>
     left                             ok left <changes> <characters> <marks> <subscribers>
     hub                              ok hub <id>
     stats                            ok stats <name> <number> ..
 
-The exit status is 0 if the session has ended, whatever it was refused; 1 if there is
+",
+            $command
+        )
+    };
+}
+
+const AFTER_REPLAY: &str = session_help!(
+    "The exit status is 0 if the session has ended, whatever it was refused; 1 if there is
 no memory, with 45, or the file of --store is refused, with 65 or 67; 2 if the command
 line is wrong; 3 if a read or a write fails, or that of the file of --store.
 
 Example:
 
     $ printf 'change2 1 1\\nr 1@1 - 2 48 6d\\n' | hub replay
-    ok version 1";
+    ok version 1"
+);
 
-const AFTER_SERVE: &str = "Lines of a session, and what answers each:
-
-    the lines of a change            ok version <n>
-    sub <capacity> <hex> [from <n>]  ok sub <id>
-    sub2 <capacity> <hex> ..         the same; the program may read the link
-    sub3 <capacity> <hex> ..         the same, and more programs are accepted
-    pull <id> <k>                    hit <version> <span> <verdict>,
-                                     end <version> <spans>, ..; ok items <m>
-    close <id>                       ok closed <id>
-
-With --read also:
-
-    pull <id> <k>                    ok items 0 full, once no item comes any more
-    latest                           ok latest <n>
-    show <version> <first> <k>       span <index> <format> <text>, ..; ok spans <n>
-    changes <from> <k>               the changes; ok changes <m>
-    newest <node>                    ok newest <counter>
-    left                             ok left <changes> <characters> <marks> <subscribers>
-    hub                              ok hub <id>
-    stats                            ok stats <name> <number> ..
-
-The exit status is 1 if there is no memory, with 45, or the file of --store is refused,
+const AFTER_SERVE: &str = session_help!(
+    "The exit status is 1 if there is no memory, with 45, or the file of --store is refused,
 with 65 or 67; 2 if the command line is wrong; 3 if a door can't be had, or the file of
 --store fails. With --sessions it is 0 if all sessions have ended, whatever they were
 refused, and 3 also if an accept, a read or a write fails.
@@ -155,7 +149,8 @@ Example, of one session that is answered through bash:
     $ hub serve --port 4711 --sessions 1 &
     port 4711
     $ printf 'change2 1 1\\nr 1@1 - 2 48 6d\\n' | examples/clients/ask.sh 4711
-    ok version 1";
+    ok version 1"
+);
 
 const AFTER_STRAIGHTEN: &str =
     "The exit status is 0 if the program is printed; 1 if there is none, with 10 to 13, or

@@ -2,6 +2,8 @@
 use Rattle.std.proofs.Common.{◌≡◌, ◌∙◌, ℕ, ◌+◌, ◌-◌, ◌≤◌, Some, length, ap, subst, sym, arith}
 use Rattle.std.specs.List.{slice_get}
 use Rattle.std.proofs.lemmas.Option.{same_Some}
+use Rattle.change_ops.specs.declared.keys.TheConstants.{STRONG, EM, CODE}
+use Rattle.mark_anchors.specs.Formatting.{has, link_in, color_in}
 use Rattle.span_flatten.specs.Spans.{Span}
 use Rattle.span_flatten.specs.Version.{Version, span_at, spans_of}
 use Rattle.span_view.specs.Views.{SpanView, view_of}
@@ -27,11 +29,11 @@ alike_same older newer i j kept kept_newer links links_newer same a b p q =
       newer_lent = lent newer j other.row kept_newer other.is (links_newer j t t_at);
       text = ap (λ (x : Span). x.text) e;
       format = record {
-        strong = ap (λ (x : Span). x.format.strong) e;
-        em = ap (λ (x : Span). x.format.em) e;
-        code = ap (λ (x : Span). x.format.code) e;
-        link = ap (λ (x : Span). x.format.link) e;
-        color = ap (λ (x : Span). x.format.color) e;
+        strong = ap (λ (x : Span). has x.format STRONG) e;
+        em = ap (λ (x : Span). has x.format EM) e;
+        code = ap (λ (x : Span). has x.format CODE) e;
+        link = ap (λ (x : Span). link_in x.format) e;
+        color = ap (λ (x : Span). color_in x.format) e;
         comments = ap (λ (x : Span). length x.format.comments) e;
       };
     } in

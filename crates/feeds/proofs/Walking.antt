@@ -7,6 +7,7 @@ use Rattle.std.proofs.lemmas.Bool.{cases_lt}
 use Rattle.std.proofs.lemmas.List.{append-nil, drop-drop, drop_all, drop_more, length-drop, length-take}
 use Rattle.std.proofs.lemmas.Option.{get_or_from_slice_get, none-some, same_Some, slice_get-map, slice_get_within}
 use Rattle.change_ops.specs.Attributes.{is_link}
+use Rattle.mark_anchors.specs.Formatting.{link_in}
 use Rattle.semantics.specs.Safe.{IsSpan}
 use Rattle.semantics.specs.Step.{Program}
 use Rattle.span_flatten.specs.declared.version.Row.{Row}
@@ -62,13 +63,13 @@ first_at version i row left is from =
 
 -- ---- spans that are alike
 -- a program may be run on a span, the link of which is one
-pub lent : (version : Version) (i : ℕ) (row : Row) → AreKept version → slice_get version.rows i ≡ Some row → IfSome row.format.link (λ target. IsTrue (is_link target)) → IsSpan (bytes_of (view_of version i row))
+pub lent : (version : Version) (i : ℕ) (row : Row) → AreKept version → slice_get version.rows i ≡ Some row → IfSome (link_in row.format) (λ target. IsTrue (is_link target)) → IsSpan (bytes_of (view_of version i row))
 lent version i row kept is link =
     let view : SpanView = view_of version i row in
     let fits : length version.text ≤ 131072 = kept.short in
     let short : length view.text ≤ 131072 = omega (arith, length-take (row.end - row.start) (drop row.start version.text), length-drop row.start version.text) in
     let utf8 = utf8_at (spans_of version) i (span_at version.text row) kept.maximal (span_of version i row is) in
-    let target = of_link row.format.link link in
+    let target = of_link (link_in row.format) link in
     lent_span view short target.0 (of_text view.text utf8).each target.1.each
 
 pub alike_here : (older newer : Version) (i j : ℕ) (olds news : List Span) → AreKept older → AreKept newer → olds ≡ drop i (spans_of older) → news ≡ drop j (spans_of newer)
@@ -77,7 +78,7 @@ alike_here older newer i j olds news kept kept_newer o n alike a b p q =
     let one = row_of older i a p in
     let other = row_of newer j b q in
     let same = alike (span_at older.text one.row) (span_at newer.text other.row) (first_at older i one.row olds one.is o) (first_at newer j other.row news other.is n) in
-    let link : IfSome one.row.format.link (λ target. IsTrue (is_link target)) = subst (λ (l : Option (List ℕ)). IfSome l (λ target. IsTrue (is_link target))) (sym same.format.link) same.link in
+    let link : IfSome (link_in one.row.format) (λ target. IsTrue (is_link target)) = subst (λ (l : Option (List ℕ)). IfSome l (λ target. IsTrue (is_link target))) (sym same.format.link) same.link in
     let here : IsAlike (view_of older i one.row) (view_of newer j other.row) = record {
       older_lent = lent older i one.row kept one.is link;
       newer_lent = lent newer j other.row kept_newer other.is same.link;

@@ -1,7 +1,8 @@
 -- Spans that agree in all but index, count and number, and what is kept of the verdicts on a version.
 use Rattle.std.specs.Prelude.{◌≡◌, ℕ, ◌+◌, ◌-◌, ◌<◌, ◌≤◌, IfSome, IsTrue, Some, length}
 use Rattle.change_ops.specs.Attributes.{is_link}
-use Rattle.mark_anchors.specs.Formatting.{Format}
+use Rattle.change_ops.specs.declared.keys.TheConstants.{STRONG, EM, CODE}
+use Rattle.mark_anchors.specs.Formatting.{Format, has, link_in, color_in}
 use Rattle.semantics.specs.Safe.{IsSpan}
 use Rattle.semantics.specs.Step.{Program}
 use Rattle.span_flatten.specs.Spans.{Span}
@@ -14,18 +15,18 @@ use Rattle.feeds.specs.Verdicts.{verdict_on}
 
 -- what a program can read of the two formats is the same
 pub record AreFormattedAlike (older newer : Format) : Type 0 where
-  pub strong : older.strong ≡ newer.strong
-  pub em : older.em ≡ newer.em
-  pub code : older.code ≡ newer.code
-  pub link : older.link ≡ newer.link
-  pub color : older.color ≡ newer.color
+  pub strong : has older STRONG ≡ has newer STRONG
+  pub em : has older EM ≡ has newer EM
+  pub code : has older CODE ≡ has newer CODE
+  pub link : link_in older ≡ link_in newer
+  pub color : color_in older ≡ color_in newer
   pub comments : length older.comments ≡ length newer.comments
 
 -- what a program can read of the two spans is the same, and their links are links
 pub record AreAlike (older newer : Span) : Type 0 where
   pub text : older.text ≡ newer.text
   pub format : AreFormattedAlike older.format newer.format
-  pub link : IfSome newer.format.link (λ target. IsTrue (is_link target))
+  pub link : IfSome (link_in newer.format) (λ target. IsTrue (is_link target))
 
 -- a program may be run on both, and what it can read of them differs in the index, the count of spans and the
 -- version's number alone

@@ -3,6 +3,7 @@ ghost use Rattle.std.specs.Prelude.{◌≡◌, ◌↔◌, ◌+◌, ◌-◌, ◌<
 ghost use Rattle.span_flatten.specs.Spans.{Span};
 ghost use Rattle.feeds.specs.Kept.{AlikeAt, AreAlike, AreFormattedAlike, IsStretch};
 
+use change_ops::keys::{CODE, EM, STRONG};
 use mark_anchors::format::Format;
 use std::marker::Model;
 use version_history::links::keeps_link;
@@ -16,9 +17,9 @@ use version_pieces::version::PieceVersion;
 fn are_formatted_alike(older: &Format, newer: &Format) -> bool
     ensures { IsTrue result ↔ AreFormattedAlike older.now newer.now }
 {
-    older.strong() == newer.strong()
-        && older.em() == newer.em()
-        && older.code() == newer.code()
+    older.has(STRONG) == newer.has(STRONG)
+        && older.has(EM) == newer.has(EM)
+        && older.has(CODE) == newer.has(CODE)
         && older.link() == newer.link()
         && older.color() == newer.color()
         && older.comment_count() == newer.comment_count()

@@ -133,10 +133,10 @@ module _ (size : Size) where
   closes_all (one ∷ more) v w is = then_made v is.1 w (one_made v is.1 (call.Close one.id) (told.Closed is.0) is.2) (closes_all more is.1 w is.3)
 
   -- what is read
-  shows_make : (v w : Seen) (number first most : ℕ) (text : List ℕ) (answer : Reply) → Shows size v w number first most text answer → MakesSome size v w
-  shows_make v w number first most text (reply.Spans count) is = looked v w _ is.1
-  shows_make v w number first most text (reply.Refused reason.NoVersion) is = looked v w _ is.0
-  shows_make v w number first most text _ is = absurd is
+  shows_make : (v w : Seen) (number first most : ℕ) (further : Bool) (text : List ℕ) (answer : Reply) → Shows size v w number first most further text answer → MakesSome size v w
+  shows_make v w number first most further text (reply.Spans count) is = looked v w _ is.1
+  shows_make v w number first most further text (reply.Refused reason.NoVersion) is = looked v w _ is.0
+  shows_make v w number first most further text _ is = absurd is
 
   lists_make : (v w : Seen) (from most : ℕ) (text : List ℕ) (answer : Reply) → Lists size v w from most text answer → MakesSome size v w
   lists_make v w from most text (reply.Changes count) is = looked v w _ is
@@ -156,7 +156,7 @@ module _ (size : Size) where
   tells_make v w id memory Hub text answer is = none_made v w is.2
   tells_make v w id memory Stats text (reply.Stats stats) is = looked v w _ is.0
   tells_make v w id memory Stats text _ is = absurd is
-  tells_make v w id memory (Show number first most) text answer is = shows_make v w number first most text answer is
+  tells_make v w id memory (Show number first most further) text answer is = shows_make v w number first most further text answer is
   tells_make v w id memory (Changes from most) text answer is = lists_make v w from most text answer is
   tells_make v w id memory (Newest node) text answer is = counts_make v w node answer is.0
 

@@ -1,6 +1,7 @@
 use change_history::history::History;
 use change_ops::change::read_change;
 use change_ops::id::OpId;
+use change_ops::keys::STRONG;
 use change_ops::size::Size;
 use change_ops::writing::write_change;
 use span_view::context::context;
@@ -59,7 +60,7 @@ fn a_context_has_its_bytes(rt: HostRuntime) -> Result<(), Fail> {
 fn parts(span: SpanView<'_>) -> (&str, bool, usize, usize, u64) {
     (
         span.text,
-        span.format.strong(),
+        span.format.has(STRONG),
         span.index,
         span.count,
         span.version,
@@ -120,7 +121,7 @@ fn changes_are_written_as_they_were_read(rt: HostRuntime) -> Result<(), Fail> {
 fn is_strong(alloc: Global, history: &History, counter: u64) -> Result<Option<bool>, Fail> {
     let id = OpId::new(counter, 1).ok_or("an id is out of its limits")?;
     let format = history.format_at(alloc, id)?;
-    Ok(format.map(|format| format.strong()))
+    Ok(format.map(|format| format.has(STRONG)))
 }
 
 /// Whether the first character alone is strong, and there is no fourth.

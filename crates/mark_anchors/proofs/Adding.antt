@@ -22,7 +22,7 @@ use Rattle.mark_anchors.specs.declared.comment_runs.CommentRun.{CommentRun}
 use Rattle.mark_anchors.specs.declared.placed.PlacedMark.{PlacedMark}
 use Rattle.mark_anchors.proofs.Deciding.{value_none, value_some}
 use Rattle.mark_anchors.proofs.Gathering.{placed_permuted}
-use Rattle.mark_anchors.proofs.Values.{holds_from_value, one_comment}
+use Rattle.mark_anchors.proofs.KeyValues.{holds_from_value, one_comment}
 
 the_one : (mark p : PlacedMark) (i : ℕ) → slice_get (mark ∷ []) i ≡ Some p → mark ≡ p
 the_one mark p i g =

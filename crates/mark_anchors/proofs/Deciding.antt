@@ -194,3 +194,16 @@ added_none (Remove id target) not = refl
 added_none (AddMark id attribute start end) not = absurd (not id attribute start end refl)
 added_none (RemoveMark id other start end) not = refl
 added_none (Revive id removal) not = refl
+
+key_added : (key : Key) (o : Op) (a : Attribute) → IsOfKey key o → added o ≡ Some a → key_of a ≡ key
+key_added key (Insert id parent character) a of_key is = absurd of_key
+key_added key (Remove id target) a of_key is = absurd of_key
+key_added key (AddMark id attribute start end) a of_key is = ap key_of (sym (same_Some attribute a is)) ∙ of_key
+key_added key (RemoveMark id other start end) a of_key is = absurd (none-some a is)
+key_added key (Revive id removal) a of_key is = absurd of_key
+
+-- what a mark's operation adds is of the marks' key
+pub key_of_added : (es : List Element) (operations : List Op) (marks : List PlacedMark) (key : Key) → ArePlaced es operations key marks → (i : ℕ) (mark : PlacedMark) → slice_get marks i ≡ Some mark → (o : Op) → slice_get operations mark.index ≡ Some o → (a : Attribute) → added o ≡ Some a → key_of a ≡ key
+key_of_added es operations marks key placed i mark at o index a adds =
+    let q = placed.placed i mark at in
+    key_added key o a (subst (IsOfKey key) (same_Some q.0 o (sym q.1 ∙ index)) q.2.of_key) adds

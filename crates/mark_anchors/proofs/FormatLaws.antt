@@ -1,13 +1,14 @@
 -- A format is a function of the set of operations.
-use Rattle.std.proofs.Common.{◌≡◌, ◌↔◌, ℕ, ◌<◌, List, Option, Some, None, inl, inr, sym, refl, arith}
-use Rattle.std.specs.Bool.{one_answer}
+use Rattle.std.proofs.Common.{◌≡◌, ◌↔◌, ◌∙◌, ℕ, ◌<◌, List, Option, Some, None, inl, inr, length, get_or, ext_get_or, sym, refl, arith}
 use Rattle.std.specs.List.{Contains}
 use Rattle.std.proofs.lemmas.Option.{none-some}
 use Rattle.change_ops.specs.Operations.{key_of}
+use Rattle.change_ops.specs.Reading.{valued}
 use Rattle.change_ops.specs.declared.id.OpId.{OpId}
+use Rattle.change_ops.specs.declared.keys.TheConstants.{KEYS}
 use Rattle.change_ops.specs.declared.attribute.Key.{Key}
 use Rattle.change_ops.specs.declared.attribute.Attribute.{Attribute}
-use Rattle.change_ops.specs.declared.attribute.Attribute.TheVariants.{Strong, Em, Code, Link, Color, Comment}
+use Rattle.change_ops.specs.declared.attribute.Attribute.TheVariants.{Comment}
 use Rattle.change_ops.specs.declared.operation.Anchor.{Anchor}
 use Rattle.change_ops.specs.declared.operation.Anchor.TheVariants.{TextStart, BeforeCharacter, AfterCharacter, TextEnd}
 use Rattle.change_ops.specs.declared.operation.Op.{Op}
@@ -61,19 +62,17 @@ bears_of_set ops others s e a bears = (bears.0, decides_of_set ops others s (key
 turned : (ops others : List Op) → SameSet ops others → SameSet others ops
 turned ops others s = record { forth = s.back; back = s.forth }
 
+-- where a character bears what another bears, it has the other's format
+pub format_carried : (ops others : List Op) (e f : OpId) → ((a : Attribute) → Bears ops e a → Bears others f a) → ((a : Attribute) → Bears others f a → Bears ops e a) → (g : Format) → IsFormat ops e g → IsFormat others f g
+format_carried ops others e f there back g is = record {
+  sized = is.sized;
+  rows = λ row value less. (λ t. there (valued row value) ((is.rows row value less).0 t), λ b. (is.rows row value less).1 (back (valued row value) b));
+  comments = λ n. (λ t. there (Comment n) ((is.comments n).0 t), λ b. (is.comments n).1 (back (Comment n) b));
+  rising = is.rising;
+}
+
 pub format_of_set : (ops others : List Op) → SameSet ops others → (e : OpId) (f : Format) → IsFormat ops e f → IsFormat others e f
-format_of_set ops others s e f is =
-    let there : (a : Attribute) → Bears ops e a → Bears others e a = bears_of_set ops others s e in
-    let back : (a : Attribute) → Bears others e a → Bears ops e a = bears_of_set others ops (turned ops others s) e in
-    record {
-      strong = (λ t. there Strong (is.strong.0 t), λ b. is.strong.1 (back Strong b));
-      em = (λ t. there Em (is.em.0 t), λ b. is.em.1 (back Em b));
-      code = (λ t. there Code (is.code.0 t), λ b. is.code.1 (back Code b));
-      link = λ target. (λ t. there (Link target) ((is.link target).0 t), λ b. (is.link target).1 (back (Link target) b));
-      color = λ rgb. (λ t. there (Color rgb) ((is.color rgb).0 t), λ b. (is.color rgb).1 (back (Color rgb) b));
-      comments = λ n. (λ t. there (Comment n) ((is.comments n).0 t), λ b. (is.comments n).1 (back (Comment n) b));
-      rising = is.rising;
-    }
+format_of_set ops others s e = format_carried ops others e e (bears_of_set ops others s e) (bears_of_set others ops (turned ops others s) e)
 
 -- two options that have the same values
 same_options : {X : Type 0} (P : X → Type 0) (a b : Option X) → ((x : X) → (a ≡ Some x) ↔ P x) → ((x : X) → (b ≡ Some x) ↔ P x) → a ≡ b
@@ -84,15 +83,18 @@ same_options P (Some x) b h k = sym ((k x).1 ((h x).0 refl))
 same_members : (P : ℕ → Type 0) (xs ys : List ℕ) → ((n : ℕ) → Contains xs n ↔ P n) → ((n : ℕ) → Contains ys n ↔ P n) → MembersOf xs ys
 same_members P xs ys h k i n g = contains_at ys n ((k n).1 ((h n).0 (contains_from xs i n g)))
 
+same_values : (ops : List Op) (e : OpId) (f g : Format) → IsFormat ops e f → IsFormat ops e g → f.values ≡ g.values
+same_values ops e f g is also =
+    ext_get_or None f.values g.values (is.sized ∙ sym also.sized)
+    (λ row within.
+    let sized : length f.values ≡ KEYS = is.sized in
+    let less : row < KEYS = omega arith in
+    same_options (λ value. Bears ops e (valued row value)) (get_or f.values row None) (get_or g.values row None) (λ value. is.rows row value less) (λ value. also.rows row value less))
+
 -- a character has one format
 pub one_format : (ops : List Op) (e : OpId) (f g : Format) → IsFormat ops e f → IsFormat ops e g → f ≡ g
 one_format ops e f g is also =
-    same_fields f g
-    (one_answer f.strong g.strong is.strong also.strong)
-    (one_answer f.em g.em is.em also.em)
-    (one_answer f.code g.code is.code also.code)
-    (same_options (λ target. Bears ops e (Link target)) f.link g.link is.link also.link)
-    (same_options (λ rgb. Bears ops e (Color rgb)) f.color g.color is.color also.color)
+    same_fields f g (same_values ops e f g is also)
     (same_in_order (λ x y. x < y) (λ a b less more. omega arith) f.comments g.comments (rises f.comments is.rising) (rises g.comments also.rising)
     (same_members (λ n. Bears ops e (Comment n)) f.comments g.comments is.comments also.comments)
     (same_members (λ n. Bears ops e (Comment n)) g.comments f.comments also.comments is.comments))

@@ -1,5 +1,7 @@
 pub mod Lists
 pub mod Formats
+pub mod Stores
+pub mod Decisions
 pub mod IdOrder
 pub mod AtAnchor
 pub mod MarkLaws
@@ -8,10 +10,11 @@ pub mod Places
 pub mod AnchorOrder
 pub mod Deciding
 pub mod Gathering
-pub mod Values
+pub mod KeyValues
 pub mod Adding
 pub mod Commenting
 pub mod Grouping
+pub mod Rows
 pub mod Uniform
 pub mod Windows
 pub mod Cuts

@@ -1,7 +1,7 @@
 -- Elements of a list by their indices.
-use Rattle.std.proofs.Common.{◌≡◌, ℕ, zero, suc, ◌+◌, ◌<◌, ◌≤◌, List, [], ◌∷◌, ◌++◌, Some, ◌⊎◌, inl, inr, length, get_or, sym, ap, refl, ◌∙◌, arith, ⊎_elim}
+use Rattle.std.proofs.Common.{◌≡◌, ℕ, zero, suc, ◌+◌, ◌<◌, ◌≤◌, List, [], ◌∷◌, ◌++◌, Some, ◌⊎◌, inl, inr, length, get_or, set, sym, ap, refl, ◌∙◌, subst, arith, ⊎_elim, get_or-set_same, get_or-set_other}
 use Rattle.std.specs.List.{slice_get, Contains}
-use Rattle.std.proofs.lemmas.Bool.{cases_lt}
+use Rattle.std.proofs.lemmas.Bool.{cases_lt, cases_eq}
 use Rattle.std.proofs.lemmas.Option.{same_Some, none-some, slice_get-get_or, get_or_from_slice_get, slice_get_within}
 
 -- what was read at an index stands there
@@ -56,3 +56,11 @@ pub item_at : {X : Type 0} (xs : List X) (i : ℕ) → i < length xs → (x : X)
 item_at [] i less = absurd (omega arith)
 item_at (x ∷ xs) zero less = (x, refl)
 item_at (x ∷ xs) (suc i) less = item_at xs i (omega arith)
+
+-- what holds of each element below n, and of one that is put at n, holds of each below n + 1
+pub set_more : {X : Type 0} (P : ℕ → X → Type 0) (xs : List X) (n : ℕ) (y d : X) → n < length xs → ((k : ℕ) → k < n → P k (get_or xs k d)) → P n y → (k : ℕ) → k < n + 1 → P k (get_or (set xs n y) k d)
+set_more P xs n y d within old new k less =
+    ⊎_elim
+    (λ (same : k ≡ n). subst (λ z. P z (get_or (set xs n y) z d)) (sym same) (subst (P n) (sym (get_or-set_same xs n y d within)) new))
+    (λ (apart : k ≡ n → ⊥). subst (P k) (sym (get_or-set_other xs n k y d apart)) (old k (omega arith)))
+    (cases_eq k n)

@@ -1,5 +1,5 @@
 -- Numbers of two lists, compared one after another.
-use Rattle.std.proofs.Common.{◌≡◌, ◌↔◌, ℕ, ◌+◌, List, [], ◌∷◌, drop, get_or, length, sym, ap, ◌∙◌, arith}
+use Rattle.std.proofs.Common.{◌≡◌, ◌↔◌, ℕ, List, [], ◌∷◌, drop, sym, ap, ◌∙◌}
 
 -- both have a number that is the same
 pub matched : (ns ms xs ys : List ℕ) (n : ℕ) (W : Type 0) → ns ≡ n ∷ xs → ms ≡ n ∷ ys → (ns ≡ ms) ↔ W → (xs ≡ ys) ↔ W

@@ -7,7 +7,6 @@ use Rattle.change_ops.specs.Operations.{key_of, AnchorNames, Names}
 use Rattle.change_ops.specs.declared.id.OpId.{OpId}
 use Rattle.change_ops.specs.declared.attribute.Key.{Key}
 use Rattle.change_ops.specs.declared.attribute.Attribute.{Attribute}
-use Rattle.change_ops.specs.declared.attribute.Attribute.TheVariants.{Strong, Em, Code, Link, Color, Comment}
 use Rattle.change_ops.specs.declared.operation.Anchor.{Anchor}
 use Rattle.change_ops.specs.declared.operation.Anchor.TheVariants.{TextStart, BeforeCharacter, AfterCharacter, TextEnd}
 use Rattle.change_ops.specs.declared.operation.Op.{Op}
@@ -23,6 +22,7 @@ use Rattle.mark_anchors.specs.Ranges.{IsReached, AreCuts, IsCutAt, IsUniform}
 use Rattle.mark_anchors.specs.declared.mark_range.MarkRange.{MarkRange}
 use Rattle.mark_anchors.proofs.Commenting.{rises}
 use Rattle.mark_anchors.proofs.Deciding.{touches_from_place, place_from_touches, of_key_from_touches, mark_from_key}
+use Rattle.mark_anchors.proofs.FormatLaws.{format_carried}
 use Rattle.mark_anchors.proofs.Lists.{contains_at, contains_from}
 
 -- ---- two characters that the same marks touch
@@ -41,18 +41,7 @@ turned : (ops : List Op) (e f : OpId) → ((key : Key) (o : Op) → Contains ops
 turned ops e f alike key o held = ((alike key o held).1, (alike key o held).0)
 
 format_along : (ops : List Op) (e f : OpId) → ((key : Key) (o : Op) → Contains ops o → Touches ops key e o ↔ Touches ops key f o) → (g : Format) → IsFormat ops e g → IsFormat ops f g
-format_along ops e f alike g is =
-    let there : (a : Attribute) → Bears ops e a → Bears ops f a = bears_along ops e f alike in
-    let back : (a : Attribute) → Bears ops f a → Bears ops e a = bears_along ops f e (turned ops e f alike) in
-    record {
-      strong = (λ t. there Strong (is.strong.0 t), λ b. is.strong.1 (back Strong b));
-      em = (λ t. there Em (is.em.0 t), λ b. is.em.1 (back Em b));
-      code = (λ t. there Code (is.code.0 t), λ b. is.code.1 (back Code b));
-      link = λ target. (λ t. there (Link target) ((is.link target).0 t), λ b. (is.link target).1 (back (Link target) b));
-      color = λ rgb. (λ t. there (Color rgb) ((is.color rgb).0 t), λ b. (is.color rgb).1 (back (Color rgb) b));
-      comments = λ n. (λ t. there (Comment n) ((is.comments n).0 t), λ b. (is.comments n).1 (back (Comment n) b));
-      rising = is.rising;
-    }
+format_along ops e f alike = format_carried ops ops e f (bears_along ops e f alike) (bears_along ops f e (turned ops e f alike))
 
 module _ (ops : List Op) (es : List Element) (marks : List Op) (from to place : ℕ) (e f : Element) (h : Shows es ops) (are : AreMarks ops marks) (uniform : IsUniform es marks from to)
     (at : slice_get es from ≡ Some e) (here : slice_get es place ≡ Some f) (low : from ≤ place) (high : place < to) where

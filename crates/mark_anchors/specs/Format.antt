@@ -1,17 +1,20 @@
 -- The format of a character: for each key the covering operation with the greatest id decides
 -- (Peritext, CSCW 2022).
-use Rattle.std.specs.Prelude.{◌≡◌, ◌↔◌, ℕ, List, Option, Some, None, Contains, IsTrue}
+use Rattle.std.specs.Prelude.{◌≡◌, ◌↔◌, ◌<◌, ℕ, List, Option, Some, None, Contains, length}
 use Rattle.std.specs.List.Sorted.{IsStrictlyIncreasing}
 use Rattle.change_ops.specs.Ids.{Less}
 use Rattle.change_ops.specs.Operations.{id_of, key_of}
 use Rattle.change_ops.specs.declared.id.OpId.{OpId}
 use Rattle.change_ops.specs.declared.attribute.Key.{Key}
 use Rattle.change_ops.specs.declared.attribute.Attribute.{Attribute}
-use Rattle.change_ops.specs.declared.attribute.Attribute.TheVariants.{Strong, Em, Code, Link, Color, Comment}
+use Rattle.change_ops.specs.declared.attribute.Attribute.TheVariants.{Comment}
 use Rattle.change_ops.specs.declared.operation.Op.{Op}
 use Rattle.change_ops.specs.declared.operation.Op.TheVariants.{Insert, Remove, AddMark, RemoveMark, Revive}
 use Rattle.mark_anchors.specs.Anchors.{Covers}
-use Rattle.mark_anchors.specs.Formatting.{Format}
+use Rattle.change_ops.specs.declared.keys.TheConstants.{KEYS}
+use Rattle.change_ops.specs.declared.value.Value.{Value}
+use Rattle.change_ops.specs.Reading.{valued}
+use Rattle.mark_anchors.specs.Formatting.{Format, value_in}
 
 -- the operation adds or removes a mark of the key over the character
 abbrev pub Touches : List Op → Key → OpId → Op → Type 0
@@ -41,10 +44,7 @@ Bears ops e attribute = (o : Op) × Decides ops (key_of attribute) e o × (added
 
 -- the format says of each key whether it holds, and with which value
 pub record IsFormat (ops : List Op) (e : OpId) (f : Format) : Type 0 where
-  pub strong : IsTrue f.strong ↔ Bears ops e Strong
-  pub em : IsTrue f.em ↔ Bears ops e Em
-  pub code : IsTrue f.code ↔ Bears ops e Code
-  pub link : (target : List ℕ) → (f.link ≡ Some target) ↔ Bears ops e (Link target)
-  pub color : (rgb : ℕ) → (f.color ≡ Some rgb) ↔ Bears ops e (Color rgb)
+  pub sized : length f.values ≡ KEYS
+  pub rows : (row : ℕ) (value : Value) → row < KEYS → (value_in f row ≡ Some value) ↔ Bears ops e (valued row value)
   pub comments : (n : ℕ) → Contains f.comments n ↔ Bears ops e (Comment n)
   pub rising : IsStrictlyIncreasing f.comments

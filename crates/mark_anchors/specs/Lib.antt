@@ -1,4 +1,5 @@
 pub mod Formatting
+pub mod Values
 pub mod Anchors
 pub mod AnchorList
 pub mod Format

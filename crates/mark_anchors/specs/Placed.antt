@@ -1,10 +1,13 @@
 -- Marks with the places that they cover.
-use Rattle.std.specs.Prelude.{◌≡◌, ℕ, ◌<◌, ◌≤◌, List, Option, Some, MatchOption, length, slice_get}
+use Rattle.std.specs.Prelude.{◌≡◌, ℕ, ◌<◌, ◌≤◌, List, [], Option, Some, MatchOption, length, slice_get}
+use Rattle.std.specs.declared.vec.Vec.{Vec}
 use Rattle.change_ops.specs.Ids.{Less}
 use Rattle.change_ops.specs.Operations.{id_of, key_of}
 use Rattle.change_ops.specs.declared.id.OpId.{OpId}
 use Rattle.change_ops.specs.declared.attribute.Key.{Key}
+use Rattle.change_ops.specs.declared.attribute.Key.TheVariants.{Row}
 use Rattle.change_ops.specs.declared.attribute.Attribute.{Attribute}
+use Rattle.change_ops.specs.declared.keys.TheConstants.{KEYS}
 use Rattle.change_ops.specs.declared.operation.Op.{Op}
 use Rattle.char_sequence.specs.declared.sequence.Element.{Element}
 use Rattle.mark_anchors.specs.Format.{Bears}
@@ -36,6 +39,18 @@ pub record AreFirstPlaced (es : List Element) (operations : List Op) (key : Key)
 
 abbrev pub ArePlaced : List Element → List Op → Key → List PlacedMark → Type 0
 ArePlaced es operations key marks = AreFirstPlaced es operations key (length operations) marks
+
+-- a list for each key of one value: the marks of the key, which are its operations among the first `count`
+pub record AreFirstByRow {A : Type 0} (es : List Element) (operations : List Op) (count : ℕ)
+    (lists : List (Vec PlacedMark A)) : Type 0 where
+  pub sized : length lists ≡ KEYS
+  pub each : (row : ℕ) (marks : Vec PlacedMark A) → slice_get lists row ≡ Some marks
+      → AreFirstPlaced es operations (Row row) count marks.items
+
+-- a list for each key of one value, none of which has a mark
+pub record AreUnfilled {A : Type 0} (lists : List (Vec PlacedMark A)) : Type 0 where
+  pub sized : length lists ≡ KEYS
+  pub empty : (row : ℕ) (marks : Vec PlacedMark A) → slice_get lists row ≡ Some marks → marks.items ≡ []
 
 abbrev pub CoversPlace : PlacedMark → ℕ → Type 0
 CoversPlace p place = (p.start ≤ place) × (place < p.end)

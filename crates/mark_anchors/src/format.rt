@@ -1,36 +1,37 @@
-ghost use Rattle.std.specs.Prelude.{◌≡◌, IsTrue, ◌↔◌, List, length};
+ghost use Rattle.std.specs.Prelude.{◌≡◌, ◌<◌, IsTrue, ◌↔◌, List, length, option_map};
 ghost use Rattle.std.specs.Option.{option_copied};
 ghost use Rattle.std.specs.List.Sorted.{IsStrictlyIncreasing};
 ghost use Rattle.std.specs.Cmp.{partial_equiv_from_equiv};
 ghost use Rattle.change_ops.specs.declared.id.OpId.{OpId};
+ghost use Rattle.change_ops.specs.declared.keys.TheConstants.{KEYS};
 ghost use Rattle.change_ops.specs.declared.operation.Op.{Op};
 ghost use Rattle.char_sequence.specs.Order.{SameSet};
 ghost use Rattle.mark_anchors.specs.Format.{IsFormat};
-ghost use Rattle.mark_anchors.specs.Formatting.{plain, formatting_eq, formatting_eq_equiv};
+ghost use Rattle.mark_anchors.specs.Formatting.{color_in, has, link_in, plain, value_in};
+ghost use Rattle.mark_anchors.specs.Formatting.{formatting_eq, formatting_eq_equiv};
+ghost use Rattle.mark_anchors.specs.Values.{lent};
 
 use crate::comment_list::{CommentList, CommentNumbers};
+use crate::value_ref::ValueRef;
+use crate::values::Values;
 use change_ops::attribute::{Color, Link};
+use change_ops::keys::{KEYS, KeyRow};
 use std::alloc::{AllocError, Global};
 use std::marker::Model;
 
 /// How a character is formatted: what holds of each key (Peritext, CSCW 2022).
 pub struct Format {
-    pub(crate) strong: bool,
-    pub(crate) em: bool,
-    pub(crate) code: bool,
-    pub(crate) link: Option<Link>,
-    pub(crate) color: Option<Color>,
+    pub(crate) values: Values,
     pub(crate) comments: CommentList,
 }
+
+/// Each run of a version has one.
+const _: () = prove!(size_of::<Format>() == 64);
 
 impl Drop for Format {
     fn drop(self) {
         let Format {
-            strong: _,
-            em: _,
-            code: _,
-            link: _,
-            color: _,
+            values: _,
             comments: _,
         } = self;
     }
@@ -41,14 +42,7 @@ impl Model for Format {
 
     ghost Value = { FormatValue };
 
-    ghost view = { λ f. record {
-      strong = f.strong;
-      em = f.em;
-      code = f.code;
-      link = f.link;
-      color = f.color;
-      comments = f.comments;
-    } };
+    ghost view = { λ f. record { values = f.values; comments = f.comments } };
 }
 
 impl Clone for Format {
@@ -56,11 +50,7 @@ impl Clone for Format {
 
     fn clone(&self) -> Result<Format, AllocError> {
         Ok(Format {
-            strong: self.strong,
-            em: self.em,
-            code: self.code,
-            link: self.link.clone()?,
-            color: self.color,
+            values: self.values.clone()?,
             comments: self.comments.clone()?,
         })
     }
@@ -75,11 +65,7 @@ impl PartialEq for Format {
         ensures eq { result ≡ formatting_eq self.now other.now }
         ensures same { IsTrue result ↔ (self.now ≡ other.now) }
     {
-        let flags = self.strong == other.strong && self.em == other.em && self.code == other.code;
-        flags
-            && self.link == other.link
-            && self.color == other.color
-            && self.comments.is_same(&other.comments)
+        self.values == other.values && self.comments.is_same(&other.comments)
     }
 }
 
@@ -93,11 +79,7 @@ impl Format {
         ensures { result ≡ plain }
     {
         Format {
-            strong: false,
-            em: false,
-            code: false,
-            link: None,
-            color: None,
+            values: Values::none(),
             comments: CommentList::none(),
         }
     }
@@ -106,47 +88,35 @@ impl Format {
     pub fn is_plain(&self) -> bool
         ensures { IsTrue result ↔ (self.now ≡ plain) }
     {
-        !self.strong
-            && !self.em
-            && !self.code
-            && self.link.is_none()
-            && self.color.is_none()
-            && self.comments.count() == 0
+        self.values.is_none() && self.comments.count() == 0
     }
 
-    /// Whether the character is strong.
-    pub fn strong(&self) -> bool
-        ensures { result ≡ self.now.strong }
+    /// The value of a key, where it holds.
+    pub fn value(&self, row: KeyRow) -> Option<ValueRef<'_>>
+        ensures { option_map lent result ≡ value_in self.now row }
     {
-        self.strong
+        self.values.value(row)
     }
 
-    /// Whether the character is emphasized.
-    pub fn em(&self) -> bool
-        ensures { result ≡ self.now.em }
+    /// Whether the key of a row holds.
+    pub fn has(&self, row: usize) -> bool
+        ensures { result ≡ has self.now row }
     {
-        self.em
-    }
-
-    /// Whether the character is code.
-    pub fn code(&self) -> bool
-        ensures { result ≡ self.now.code }
-    {
-        self.code
+        self.values.has(row)
     }
 
     /// The link that the character is part of.
     pub fn link(&self) -> Option<&Link>
-        ensures { option_copied result ≡ self.now.link }
+        ensures { option_copied result ≡ link_in self.now }
     {
-        self.link.as_ref()
+        self.values.link()
     }
 
     /// The character's color.
     pub fn color(&self) -> Option<Color>
-        ensures { result ≡ self.now.color }
+        ensures { result ≡ color_in self.now }
     {
-        self.color
+        self.values.color()
     }
 
     /// How many comments are on the character.

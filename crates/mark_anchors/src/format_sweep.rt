@@ -3,8 +3,9 @@ ghost use Rattle.std.specs.Prelude.{◌≡◌, ◌<◌, ◌≤◌, ◌↔◌, If
 ghost use Rattle.mark_anchors.specs.Formatting.{Format};
 ghost use Rattle.mark_anchors.specs.Ranges.{IsFormatAt};
 
+use crate::decided::Decided;
 use crate::format::Format;
-use crate::resolved::{Decided, Near, ResolvedMarks};
+use crate::resolved::{Near, ResolvedMarks};
 use std::alloc::AllocError;
 use std::marker::Model;
 

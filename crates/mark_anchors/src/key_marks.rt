@@ -242,6 +242,9 @@ impl KeyMarks {
     pub(crate) fn deciding(&self, place: usize, near: &mut usize) -> Option<PlacedMark>
         ensures { IsBest self.now place (length self.now) result }
     {
+        if self.marks.is_empty() {
+            return None;
+        }
         let count = count_near(&self.places, place, near);
         if count == 0 {
             return None;

@@ -1,8 +1,13 @@
 //! Marks with the places that they cover, so that no look-up by id is left.
-ghost use Rattle.std.specs.Prelude.{◌≡◌, ◌<◌, ◌↔◌, ℕ, true, List, Some, Contains, IfOk, IsTrue, length, slice_get};
+ghost use Rattle.std.specs.Prelude.{◌≡◌, ◌<◌, ◌↔◌, ℕ, true, List, Some, Contains, IfOk, IfSome, IsTrue, length};
+ghost use Rattle.std.specs.Prelude.{slice_get};
 ghost use Rattle.std.specs.Option.{option_copied};
 ghost use Rattle.change_ops.specs.Ids.{Less};
+ghost use Rattle.change_ops.specs.Keys.{type_of_row};
 ghost use Rattle.change_ops.specs.Operations.{AnchorNames, is_mark, key_of};
+ghost use Rattle.change_ops.specs.Reading.{valued};
+ghost use Rattle.change_ops.specs.Values.{is_of_type};
+ghost use Rattle.change_ops.specs.declared.value.Value.{Value as ValueOf};
 ghost use Rattle.char_sequence.specs.declared.sequence.Element.{Element};
 ghost use Rattle.char_sequence.specs.Tree.{Present};
 ghost use Rattle.char_sequence.specs.Order.{Shows, IsAt};
@@ -10,12 +15,15 @@ ghost use Rattle.mark_anchors.specs.Format.{Bears};
 ghost use Rattle.mark_anchors.specs.Marks.{AreMarks};
 ghost use Rattle.mark_anchors.specs.Places.{IsBoundary};
 ghost use Rattle.mark_anchors.specs.Placed.{IsPlaced, AreAllPlaced, ArePlaced, IsBest, IsValue};
+ghost use Rattle.mark_anchors.specs.Placed.{AreFirstByRow, AreUnfilled};
 
 use crate::key_marks::KeyMarks;
 use crate::mark_range::mark_range;
-use change_ops::attribute::{Attribute, Color, Key, Link};
+use change_ops::attribute::{Attribute, Key};
 use change_ops::id::OpId;
+use change_ops::keys::KEYS;
 use change_ops::operation::{Anchor, Op};
+use change_ops::value::Value;
 use char_sequence::place_table::PlaceTable;
 use char_sequence::sequence::Sequence;
 use std::alloc::{AllocError, Global};
@@ -104,31 +112,32 @@ pub(crate) fn marks_in(
     placed_marks(alloc, &places, operations)
 }
 
-/// Those of the marks that are of the key.
-fn gathered(alloc: Global, marks: &[PlacedMark], key: &Key) -> Result<Vec<PlacedMark>, AllocError>
-    ensures { IfOk result (λ found. (es : List Element) (operations : List Op) → AreAllPlaced es operations marks.now
-        → ArePlaced es operations key.now found.items) }
+/// A list for each key of one value, of no mark yet.
+fn empty_lists(alloc: Global) -> Result<Vec<Vec<PlacedMark>>, AllocError>
+    ensures { IfOk result (λ lists. AreUnfilled lists.items) }
 {
-    let mut found = Vec::new(alloc);
-    for mark in marks {
-        if mark.key == *key {
-            found.push(*mark)?;
-        }
+    let mut lists = Vec::with_capacity(alloc, KEYS)?;
+    for _row in 0..KEYS {
+        lists.push(Vec::new(alloc))?;
     }
-    Ok(found)
+    Ok(lists)
 }
 
-/// Those of the marks that are of the key, so that the one that decides at a place is found.
-pub(crate) fn marks_of(
+/// The marks of each key of one value, by row.
+pub(crate) fn marks_by_row(
     alloc: Global,
     marks: &[PlacedMark],
-    key: &Key,
-) -> Result<KeyMarks, AllocError>
-    ensures { IfOk result (λ found. (es : List Element) (operations : List Op) → AreAllPlaced es operations marks.now
-        → ArePlaced es operations key.now found) }
+) -> Result<Vec<Vec<PlacedMark>>, AllocError>
+    ensures { IfOk result (λ lists. (es : List Element) (operations : List Op) → AreAllPlaced es operations marks.now
+        → AreFirstByRow es operations (length operations) lists.items) }
 {
-    let found = gathered(alloc, marks, key)?;
-    KeyMarks::new(alloc, found)
+    let mut lists = empty_lists(alloc)?;
+    for mark in marks {
+        if let Key::Row(row) = &mark.key {
+            lists[row.row()].push(*mark)?;
+        }
+    }
+    Ok(lists)
 }
 
 /// What the deciding mark adds at the place. `near`, here and below, is where the last look-up among these marks ended.
@@ -139,8 +148,11 @@ fn added_at<'a>(
     near: &mut usize,
 ) -> Option<&'a Attribute>
     requires { (i : ℕ) (p : PlacedMark) → slice_get marks.now i ≡ Some p → p.index < length operations.now }
-    ensures { (es : List Element) (ops : List Op) (key : Key) (e : OpId) → Shows es ops → AreMarks ops operations.now
-        → ArePlaced es operations.now key marks.now → IsAt es e place → IsValue ops key e (option_copied result) }
+    ensures value { (es : List Element) (ops : List Op) (key : Key) (e : OpId) → Shows es ops
+        → AreMarks ops operations.now → ArePlaced es operations.now key marks.now → IsAt es e place
+        → IsValue ops key e (option_copied result) }
+    ensures of_key { (es : List Element) (key : Key) → ArePlaced es operations.now key marks.now
+        → IfSome result (λ attribute. key_of attribute.now ≡ key) }
 {
     let mark = marks.deciding(place, near)?;
     match &operations[mark.index] {
@@ -160,38 +172,22 @@ pub(crate) fn holds_at(operations: &[Op], marks: &KeyMarks, place: usize, near: 
     added_at(operations, marks, place, near).is_some()
 }
 
-/// The link at the place.
-pub(crate) fn link_at<'a>(
+/// The value of the marks' key at the place.
+pub(crate) fn value_at<'a>(
     operations: &'a [Op],
     marks: &KeyMarks,
     place: usize,
     near: &mut usize,
-) -> Option<&'a Link>
+) -> Option<&'a Value>
     requires { (i : ℕ) (p : PlacedMark) → slice_get marks.now i ≡ Some p → p.index < length operations.now }
-    ensures { (es : List Element) (ops : List Op) (e : OpId) → Shows es ops → AreMarks ops operations.now
-        → ArePlaced es operations.now Key.Link marks.now → IsAt es e place → (target : List ℕ)
-        → (option_copied result ≡ Some target) ↔ Bears ops e (Attribute.Link target) }
+    ensures bears { (es : List Element) (ops : List Op) (row : ℕ) (e : OpId) → Shows es ops
+        → AreMarks ops operations.now → ArePlaced es operations.now (Key.Row row) marks.now → IsAt es e place
+        → (value : ValueOf) → (option_copied result ≡ Some value) ↔ Bears ops e (valued row value) }
+    ensures typed { (es : List Element) (row : ℕ) → ArePlaced es operations.now (Key.Row row) marks.now
+        → IfSome result (λ value. IsTrue (is_of_type (type_of_row row) value.now)) }
 {
     match added_at(operations, marks, place, near)? {
-        Attribute::Link(link) => Some(link),
-        _ => None,
-    }
-}
-
-/// The color at the place.
-pub(crate) fn color_at(
-    operations: &[Op],
-    marks: &KeyMarks,
-    place: usize,
-    near: &mut usize,
-) -> Option<Color>
-    requires { (i : ℕ) (p : PlacedMark) → slice_get marks.now i ≡ Some p → p.index < length operations.now }
-    ensures { (es : List Element) (ops : List Op) (e : OpId) → Shows es ops → AreMarks ops operations.now
-        → ArePlaced es operations.now Key.Color marks.now → IsAt es e place → (rgb : ℕ)
-        → (result ≡ Some rgb) ↔ Bears ops e (Attribute.Color rgb) }
-{
-    match added_at(operations, marks, place, near)? {
-        Attribute::Color(color) => Some(*color),
-        _ => None,
+        Attribute::Row(valued) => Some(valued.value()),
+        Attribute::Comment(_) => None,
     }
 }

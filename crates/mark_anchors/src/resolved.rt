@@ -1,6 +1,7 @@
 //! Marks with their places, for the formats of a text's characters.
-ghost use Rattle.std.specs.Prelude.{◌≡◌, ◌<◌, ◌≤◌, ◌↔◌, List, [], IfOk, IsTrue, length};
-ghost use Rattle.std.specs.Option.{option_copied};
+ghost use Rattle.std.specs.Prelude.{◌≡◌, ◌<◌, ◌≤◌, ◌↔◌, List, IfOk, IsTrue, length};
+ghost use Rattle.change_ops.specs.declared.keys.TheConstants.{KEYS};
+ghost use Rattle.char_sequence.specs.declared.sequence.Element.{Element};
 ghost use Rattle.char_sequence.specs.Tree.{Present};
 ghost use Rattle.char_sequence.specs.Order.{Shows};
 ghost use Rattle.mark_anchors.specs.Format.{IsFormat};
@@ -8,20 +9,22 @@ ghost use Rattle.mark_anchors.specs.Marks.{AreMarks};
 ghost use Rattle.mark_anchors.specs.Placed.{AreAllPlaced};
 ghost use Rattle.mark_anchors.specs.CommentRuns.{numbers_at};
 ghost use Rattle.mark_anchors.specs.Formatting.{Format};
-ghost use Rattle.mark_anchors.specs.Resolution.{formatting_of};
+ghost use Rattle.mark_anchors.specs.Resolution.{AreByRow, formatting_of};
 ghost use Rattle.mark_anchors.specs.Ranges.{AreCuts, IsFormatAt};
 
 use crate::comment_runs::comment_runs;
 use crate::comment_table::{CommentTable, RunCounts};
 use crate::comments::comment_marks;
 use crate::cut_places::cuts_between;
+use crate::decided::Decided;
 use crate::format::Format;
 use crate::format_sweep::FormatSweep;
 use crate::key_marks::{KeyMarks, in_order, places_of};
 use crate::marks::Marks;
-use crate::placed::{PlacedMark, color_at, holds_at, link_at, marks_in, marks_of};
-use change_ops::attribute::{Color, Key, Link};
+use crate::placed::{PlacedMark, marks_by_row, marks_in, value_at};
+use crate::values::Values;
 use change_ops::id::OpId;
+use change_ops::keys::KEYS;
 use change_ops::operation::Op;
 use char_sequence::sequence::Sequence;
 use std::alloc::{AllocError, Global};
@@ -34,11 +37,8 @@ pub struct ResolvedMarks<'a> {
     operations: &'a [Op],
     /// At these places marks begin and end.
     places: Vec<usize>,
-    strong: KeyMarks,
-    em: KeyMarks,
-    code: KeyMarks,
-    link: KeyMarks,
-    color: KeyMarks,
+    /// Those of each key of one value.
+    rows: Vec<KeyMarks>,
     comments: CommentTable,
 }
 
@@ -49,39 +49,14 @@ impl<'a> Model for ResolvedMarks<'a> {
 
     ghost view = { λ r. record { elements = r.sequence.now.elements; marks = r.operations.now; runs = r.comments } };
 
-    ghost invariant = { λ r. AreResolved r.sequence.now.elements r.operations.now r.places.items r.strong r.em r.code
-        r.link r.color r.comments };
-}
-
-/// What holds at a place of each key but comments.
-#[derive(Clone, Copy)]
-pub(crate) struct Decided<'a> {
-    pub(crate) strong: bool,
-    pub(crate) em: bool,
-    pub(crate) code: bool,
-    pub(crate) link: Option<&'a Link>,
-    pub(crate) color: Option<Color>,
-}
-
-/// Whether the links are the same.
-fn is_same_link(first: Option<&Link>, second: Option<&Link>) -> bool
-    ensures { IsTrue result ↔ (option_copied first.entry ≡ option_copied second.entry) }
-{
-    match (first, second) {
-        (Some(link), Some(other)) => link == other,
-        (None, None) => true,
-        _ => false,
-    }
+    ghost invariant = { λ r. AreResolved r.sequence.now.elements r.operations.now r.places.items r.rows.items
+        r.comments };
 }
 
 /// Where the last look-up of each key ended: from there the next one begins.
 #[derive(Clone, Copy)]
 pub(crate) struct Near {
-    strong: usize,
-    em: usize,
-    code: usize,
-    link: usize,
-    color: usize,
+    rows: [usize; KEYS],
     comments: RunCounts,
 }
 
@@ -89,11 +64,7 @@ impl Near {
     /// No look-up was made.
     pub(crate) fn start() -> Near {
         Near {
-            strong: 0,
-            em: 0,
-            code: 0,
-            link: 0,
-            color: 0,
+            rows: [0; KEYS],
             comments: RunCounts {
                 begun: 0,
                 ended: 0,
@@ -103,17 +74,16 @@ impl Near {
     }
 }
 
-impl Decided<'_> {
-    /// Whether the same holds of each key but the link.
-    fn is_same_but_link(&self, other: &Decided<'_>) -> bool
-        ensures { IsTrue result ↔ ((self.now.strong ≡ other.now.strong) × (self.now.em ≡ other.now.em)
-            × (self.now.code ≡ other.now.code) × (self.now.color ≡ other.now.color)) }
-    {
-        self.strong == other.strong
-            && self.em == other.em
-            && self.code == other.code
-            && self.color == other.color
+/// The marks of each key of one value, so that the one that decides at a place is found.
+fn rows_of(alloc: Global, marks: &[PlacedMark]) -> Result<Vec<KeyMarks>, AllocError>
+    ensures { IfOk result (λ rows. (es : List Element) (operations : List Op) → AreAllPlaced es operations marks.now
+        → AreByRow es operations rows.items) }
+{
+    let mut rows = Vec::with_capacity(alloc, KEYS)?;
+    for list in marks_by_row(alloc, marks)? {
+        rows.push(KeyMarks::new(alloc, list)?)?;
     }
+    Ok(rows)
 }
 
 /// Mark operations with the places that they cover in the sequence.
@@ -135,11 +105,7 @@ pub fn resolve_placed<'a>(
         sequence,
         operations,
         places: in_order(places_of(alloc, &marks)?)?,
-        strong: marks_of(alloc, &marks, &Key::Strong)?,
-        em: marks_of(alloc, &marks, &Key::Em)?,
-        code: marks_of(alloc, &marks, &Key::Code)?,
-        link: marks_of(alloc, &marks, &Key::Link)?,
-        color: marks_of(alloc, &marks, &Key::Color)?,
+        rows: rows_of(alloc, &marks)?,
         comments: CommentTable::new(alloc, runs)?,
     })
 }
@@ -195,14 +161,13 @@ impl ResolvedMarks<'_> {
         ensures { IsFormatAt self.now.elements self.now.marks place
             (formatting_of result (numbers_at self.now.runs place)) }
     {
-        let operations = self.operations;
-        Decided {
-            strong: holds_at(operations, &self.strong, place, &mut near.strong),
-            em: holds_at(operations, &self.em, place, &mut near.em),
-            code: holds_at(operations, &self.code, place, &mut near.code),
-            link: link_at(operations, &self.link, place, &mut near.link),
-            color: color_at(operations, &self.color, place, &mut near.color),
+        let mut values = [None; KEYS];
+        for row in 0..KEYS {
+            let mut from = near.rows[row];
+            values[row] = value_at(self.operations, &self.rows[row], place, &mut from);
+            near.rows[row] = from;
         }
+        Decided::new(values)
     }
 
     /// Whether the characters at the two places, of which this was decided, have one format. No format is made for it.
@@ -223,8 +188,7 @@ impl ResolvedMarks<'_> {
         ensures { (format : Format) → IsFormatAt self.now.elements self.now.marks first format
             → IsTrue result ↔ IsFormatAt self.now.elements self.now.marks second format }
     {
-        let decided = one.is_same_but_link(other) && is_same_link(one.link, other.link);
-        decided && self.comments.is_alike(first, second, &mut near.comments)
+        one.is_same(other) && self.comments.is_alike(first, second, &mut near.comments)
     }
 
     /// The format of what was decided, with the comments at the place.
@@ -236,16 +200,8 @@ impl ResolvedMarks<'_> {
     ) -> Result<Format, AllocError>
         ensures { IfOk result (λ format. format ≡ formatting_of decided.now (numbers_at self.now.runs place)) }
     {
-        let link = match decided.link {
-            Some(link) => Some(link.clone()?),
-            None => None,
-        };
         Ok(Format {
-            strong: decided.strong,
-            em: decided.em,
-            code: decided.code,
-            link,
-            color: decided.color,
+            values: Values::of(decided)?,
             comments: self.comments.at(place, &mut near.comments)?,
         })
     }

@@ -7,7 +7,6 @@ use Rattle.change_ops.specs.Operations.{id_of, is_edit, is_mark, key_of}
 use Rattle.change_ops.specs.declared.id.OpId.{OpId}
 use Rattle.change_ops.specs.declared.attribute.Key.{Key}
 use Rattle.change_ops.specs.declared.attribute.Attribute.{Attribute}
-use Rattle.change_ops.specs.declared.attribute.Attribute.TheVariants.{Strong, Em, Code, Link, Color, Comment}
 use Rattle.change_ops.specs.declared.operation.Op.{Op}
 use Rattle.change_ops.specs.declared.operation.Op.TheVariants.{Insert, Remove, AddMark, RemoveMark, Revive}
 use Rattle.char_sequence.specs.declared.sequence.Element.{Element}
@@ -19,7 +18,7 @@ use Rattle.mark_anchors.specs.Format.{Touches, Decides, Bears, IsFormat}
 use Rattle.mark_anchors.specs.Formatting.{Format}
 use Rattle.mark_anchors.specs.Marks.{AreMarks}
 use Rattle.mark_anchors.proofs.Deciding.{touches_from_place, place_from_touches, of_key_from_touches, mark_from_key}
-use Rattle.mark_anchors.proofs.FormatLaws.{touches_kept}
+use Rattle.mark_anchors.proofs.FormatLaws.{touches_kept, format_carried}
 use Rattle.mark_places.specs.Chosen.{AreChosen, IsOutside, IsOverruled}
 use Rattle.mark_places.proofs.Filters.{kept_was, kept_passes, is_kept}
 use Rattle.mark_places.proofs.KeyCases.{one_key}
@@ -164,12 +163,4 @@ module _ (es : List Element) (ops marks chosen : List Op) (h : Shows es ops) (ar
     back a b = (b.0, decides_back (key_of a) b.0 b.1, b.2)
 
     pub one_format : (f : Format) → IsFormat (with_marks ops chosen) e f → IsFormat ops e f
-    one_format f is = record {
-      strong = (λ t. there Strong (is.strong.0 t), λ b. is.strong.1 (back Strong b));
-      em = (λ t. there Em (is.em.0 t), λ b. is.em.1 (back Em b));
-      code = (λ t. there Code (is.code.0 t), λ b. is.code.1 (back Code b));
-      link = λ target. (λ t. there (Link target) ((is.link target).0 t), λ b. (is.link target).1 (back (Link target) b));
-      color = λ rgb. (λ t. there (Color rgb) ((is.color rgb).0 t), λ b. (is.color rgb).1 (back (Color rgb) b));
-      comments = λ n. (λ t. there (Comment n) ((is.comments n).0 t), λ b. (is.comments n).1 (back (Comment n) b));
-      rising = is.rising;
-    }
+    one_format = format_carried (with_marks ops chosen) ops e e there back

@@ -8,7 +8,7 @@ use Rattle.std.proofs.lemmas.Option.{same_Some, none-some}
 use Rattle.change_ops.specs.Ids.{Less}
 use Rattle.change_ops.specs.declared.id.OpId.{OpId}
 use Rattle.change_ops.specs.declared.attribute.Key.{Key}
-use Rattle.change_ops.specs.declared.attribute.Key.TheVariants.{Strong, Em, Code, Link, Color, Comment}
+use Rattle.change_ops.specs.declared.attribute.Key.TheVariants.{Row, Comment}
 use Rattle.change_ops.specs.declared.operation.Op.{Op}
 use Rattle.char_sequence.proofs.Ids.{less_irrefl, less_trans, less_cases, lower_floor}
 use Rattle.mark_anchors.specs.declared.placed.PlacedMark.{PlacedMark}
@@ -27,11 +27,7 @@ own_floor (Some found) after id x (inr (same, not)) is = inr (same_Some id x (sy
 
 -- a floor that is there is of a key that has one
 floor_has : (floors : Floors) (key : Key) (x : OpId) → floor_of floors key ≡ Some x → has_floor key ≡ true
-floor_has floors Strong x is = refl
-floor_has floors Em x is = refl
-floor_has floors Code x is = refl
-floor_has floors Link x is = refl
-floor_has floors Color x is = refl
+floor_has floors (Row row) x is = refl
 floor_has floors (Comment number) x is = absurd (none-some x is)
 
 -- what was not above the floor isn't above the greater one, and neither is the id itself

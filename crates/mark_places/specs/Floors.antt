@@ -1,6 +1,6 @@
 -- The greatest ids, by key, of the marks that cover a whole window, and which marks are kept for it.
 use Rattle.std.specs.Prelude.{◌≡◌, ◌⊎◌, ℕ, ◌<◌, ◌≤◌, Bool, true, false, List, Option, Some, None, MatchOption}
-use Rattle.std.specs.Prelude.{Contains, length, slice_get}
+use Rattle.std.specs.Prelude.{Contains, length, slice_get, slice_index_or}
 use Rattle.change_ops.specs.Ids.{Less}
 use Rattle.change_ops.specs.declared.id.OpId.{OpId}
 use Rattle.change_ops.specs.declared.attribute.Key.{Key}
@@ -11,11 +11,7 @@ use Rattle.mark_places.specs.declared.floors.Floors.{Floors}
 
 -- what was found for the key; nothing for comments
 abbrev pub floor_of : Floors → Key → Option OpId
-floor_of floors key.Strong = floors.strong
-floor_of floors key.Em = floors.em
-floor_of floors key.Code = floors.code
-floor_of floors key.Link = floors.link
-floor_of floors key.Color = floors.color
+floor_of floors (key.Row row) = slice_index_or floors.rows row None
 floor_of floors (key.Comment number) = None
 
 -- the id, or the one before if the id is below that
@@ -26,11 +22,7 @@ IsGreaterOf before id after =
 
 -- the keys of one value have a floor; comments don't, as each number is a key of its own
 abbrev pub has_floor : Key → Bool
-has_floor key.Strong = true
-has_floor key.Em = true
-has_floor key.Code = true
-has_floor key.Link = true
-has_floor key.Color = true
+has_floor (key.Row row) = true
 has_floor (key.Comment number) = false
 
 -- the key's own floor is the greater of the two, and the others are as they were

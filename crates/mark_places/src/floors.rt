@@ -5,16 +5,13 @@ ghost use Rattle.mark_places.specs.Floors.{AreFloors, CoversAll, IsGreaterOf, Is
 
 use change_ops::attribute::Key;
 use change_ops::id::OpId;
+use change_ops::keys::KEYS;
 use mark_anchors::placed::PlacedMark;
 
 /// For each key of one value the greatest id found among the marks that cover the whole window.
 #[derive(Clone, Copy)]
 pub(crate) struct Floors {
-    strong: Option<OpId>,
-    em: Option<OpId>,
-    code: Option<OpId>,
-    link: Option<OpId>,
-    color: Option<OpId>,
+    rows: [Option<OpId>; KEYS],
 }
 
 /// Whether the mark covers all places from `low` up to `high`.
@@ -39,13 +36,7 @@ impl Floors {
     fn new() -> Floors
         ensures { (key : Key) → floor_of result key ≡ None }
     {
-        Floors {
-            strong: None,
-            em: None,
-            code: None,
-            link: None,
-            color: None,
-        }
+        Floors { rows: [None; KEYS] }
     }
 
     /// Of the marks that cover all places from `low` up to `high`.
@@ -66,11 +57,7 @@ impl Floors {
         ensures { result ≡ floor_of self.now key.now }
     {
         match key {
-            Key::Strong => self.strong,
-            Key::Em => self.em,
-            Key::Code => self.code,
-            Key::Link => self.link,
-            Key::Color => self.color,
+            Key::Row(row) => self.rows[row.row()],
             Key::Comment(_) => None,
         }
     }
@@ -80,11 +67,10 @@ impl Floors {
         ensures { IsRaised key.now id self.old self.new }
     {
         match key {
-            Key::Strong => self.strong = greater(self.strong, id),
-            Key::Em => self.em = greater(self.em, id),
-            Key::Code => self.code = greater(self.code, id),
-            Key::Link => self.link = greater(self.link, id),
-            Key::Color => self.color = greater(self.color, id),
+            Key::Row(row) => {
+                let row = row.row();
+                self.rows[row] = greater(self.rows[row], id);
+            }
             Key::Comment(_) => {}
         }
     }

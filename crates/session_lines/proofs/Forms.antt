@@ -10,11 +10,11 @@ use Rattle.change_ops.specs.Spelling.{◌␣◌}
 use Rattle.change_ops.specs.Forms.{Joined, Word}
 use Rattle.change_ops.proofs.Grammar.{Lacks, bind_some, split_again, split_takes, number_lacks}
 use Rattle.change_ops.proofs.Phrases.{same_bytes}
-use Rattle.change_ops.proofs.Keys.{lacks_all}
+use Rattle.change_ops.proofs.KeyWords.{lacks_all}
 use Rattle.change_ops.proofs.NumeralForms.{number_takes, number_again}
 use Rattle.span_context.specs.declared.profile.Profile.{Profile}
 use Rattle.span_context.specs.declared.profile.Profile.TheVariants.{One, Two, Three}
-use Rattle.session_lines.specs.Commands.{Command, name_of, subscribe, pull, close, read, Number, IsCount, Count, IsFewChanges, FewChanges, OneWord, CommandForm, Grants, IsAsked}
+use Rattle.session_lines.specs.Commands.{Command, name_of, show_word, subscribe, pull, close, read, Number, IsCount, Count, IsFewChanges, FewChanges, OneWord, CommandForm, Grants, IsAsked}
 use Rattle.session_lines.specs.Reading.{is_count, is_few_changes, is_one_word, from_at, program_at, subscribe_at, pull_at, close_at, show_at, changes_at, newest_at, query_at, words_at, alone_at, either_of, command_at}
 use Rattle.session_lines.specs.declared.query.Query.{Query}
 use Rattle.session_lines.specs.declared.query.Query.TheVariants.{Latest, Left, Hub, Stats, Show, Changes, Newest}
@@ -180,24 +180,24 @@ close_read : (fields : List ℕ) (subscriber : ℕ) → Number subscriber fields
 unfolding close_at
 close_read fields subscriber h = rw (number_read fields subscriber h) refl
 
-show_form : (line fields : List ℕ) (c : Command) → line ≡ codes "show" ␣ fields → show_at fields ≡ Some c → CommandForm c line
+show_form : (further : Bool) (line fields : List ℕ) (c : Command) → line ≡ show_word further ␣ fields → show_at further fields ≡ Some c → CommandForm c line
 unfolding show_at
-show_form line fields c text e =
-    let a = bind_some (split 32 fields) (λ parts. split 32 parts.1 >>= λ more. small (number_in 10 parts.0) >>= λ version. small (number_in 10 more.0) >>= λ first. small (number_in 10 more.1) >>= λ count. if is_count count then Some (read (Show version first count)) else None) c e in
-    let b = bind_some (split 32 a.0.1) (λ more. small (number_in 10 a.0.0) >>= λ version. small (number_in 10 more.0) >>= λ first. small (number_in 10 more.1) >>= λ count. if is_count count then Some (read (Show version first count)) else None) c a.2 in
-    let v = bind_some (small (number_in 10 a.0.0)) (λ version. small (number_in 10 b.0.0) >>= λ first. small (number_in 10 b.0.1) >>= λ count. if is_count count then Some (read (Show version first count)) else None) c b.2 in
-    let f = bind_some (small (number_in 10 b.0.0)) (λ first. small (number_in 10 b.0.1) >>= λ count. if is_count count then Some (read (Show v.0 first count)) else None) c v.2 in
-    let d = bind_some (small (number_in 10 b.0.1)) (λ count. if is_count count then Some (read (Show v.0 f.0 count)) else None) c f.2 in
-    let g = guard_some (is_count d.0) (read (Show v.0 f.0 d.0)) c d.2 in
+show_form further line fields c text e =
+    let a = bind_some (split 32 fields) (λ parts. split 32 parts.1 >>= λ more. small (number_in 10 parts.0) >>= λ version. small (number_in 10 more.0) >>= λ first. small (number_in 10 more.1) >>= λ count. if is_count count then Some (read (Show version first count further)) else None) c e in
+    let b = bind_some (split 32 a.0.1) (λ more. small (number_in 10 a.0.0) >>= λ version. small (number_in 10 more.0) >>= λ first. small (number_in 10 more.1) >>= λ count. if is_count count then Some (read (Show version first count further)) else None) c a.2 in
+    let v = bind_some (small (number_in 10 a.0.0)) (λ version. small (number_in 10 b.0.0) >>= λ first. small (number_in 10 b.0.1) >>= λ count. if is_count count then Some (read (Show version first count further)) else None) c b.2 in
+    let f = bind_some (small (number_in 10 b.0.0)) (λ first. small (number_in 10 b.0.1) >>= λ count. if is_count count then Some (read (Show v.0 first count further)) else None) c v.2 in
+    let d = bind_some (small (number_in 10 b.0.1)) (λ count. if is_count count then Some (read (Show v.0 f.0 count further)) else None) c f.2 in
+    let g = guard_some (is_count d.0) (read (Show v.0 f.0 d.0 further)) c d.2 in
     let counted : Count d.0 b.0.1 = record { number = number_form b.0.1 d.0 d.1; limits = count_form d.0 g.0 } in
     let last : Joined 32 (Number f.0) (Count d.0) a.0.1 = record { first = b.0.0; second = b.0.1; whole = (split_takes 32 a.0.1 b.0.0 b.0.1 b.1).0; before = number_form b.0.0 f.0 f.1; after = counted } in
     let behind : Joined 32 (Number v.0) (Joined 32 (Number f.0) (Count d.0)) fields = record { first = a.0.0; second = a.0.1; whole = (split_takes 32 fields a.0.0 a.0.1 a.1).0; before = number_form a.0.0 v.0 v.1; after = last } in
-    let form : CommandForm (read (Show v.0 f.0 d.0)) line = record { first = codes "show"; second = fields; whole = text; before = refl; after = behind } in
+    let form : CommandForm (read (Show v.0 f.0 d.0 further)) line = record { first = show_word further; second = fields; whole = text; before = refl; after = behind } in
     subst (λ (x : Command). CommandForm x line) g.1 form
 
-show_read : (fields : List ℕ) (version first count : ℕ) → Joined 32 (Number version) (Joined 32 (Number first) (Count count)) fields → show_at fields ≡ Some (read (Show version first count))
+show_read : (further : Bool) (fields : List ℕ) (version first count : ℕ) → Joined 32 (Number version) (Joined 32 (Number first) (Count count)) fields → show_at further fields ≡ Some (read (Show version first count further))
 unfolding show_at
-show_read fields version first count j =
+show_read further fields version first count j =
     let more : split 32 j.second ≡ Some (j.after.first, j.after.second) = joined_again j.second j.after (no_space j.after.first first j.after.before) in
     rw (joined_again fields j (no_space j.first version j.before), more, number_read j.first version j.before, number_read j.after.first first j.after.before, number_read j.after.second count j.after.after.number, count_read count j.after.after.limits) refl
 
@@ -231,16 +231,17 @@ unfolding newest_at
 newest_read fields node h = rw (number_read fields node h) refl
 
 query_form : (line name fields : List ℕ) (c : Command) → line ≡ name ␣ fields → query_at name fields ≡ Some c → CommandForm c line
-query_form line name fields c whole e = go (bytes_eq name (codes "show")) (bytes_eq name (codes "changes")) (bytes_eq name (codes "newest")) refl refl refl e where
+query_form line name fields c whole e = go (bytes_eq name (codes "show")) (bytes_eq name (codes "show3")) (bytes_eq name (codes "changes")) (bytes_eq name (codes "newest")) refl refl refl refl e where
   named : (word : List ℕ) → bytes_eq name word ≡ true → line ≡ word ␣ fields
   named word f = whole ∙ ap (λ (x : List ℕ). x ␣ fields) (same_bytes name word f)
 
-  go : (s t p : Bool) → bytes_eq name (codes "show") ≡ s → bytes_eq name (codes "changes") ≡ t → bytes_eq name (codes "newest") ≡ p
-      → cond s (show_at fields) (cond t (changes_at fields) (cond p (newest_at fields) None)) ≡ Some c → CommandForm c line
-  go true t p f1 f2 f3 e = show_form line fields c (named (codes "show") f1) e
-  go false true p f1 f2 f3 e = changes_form line fields c (named (codes "changes") f2) e
-  go false false true f1 f2 f3 e = newest_form line fields c (named (codes "newest") f3) e
-  go false false false f1 f2 f3 e = absurd cc
+  go : (s t u p : Bool) → bytes_eq name (codes "show") ≡ s → bytes_eq name (codes "show3") ≡ t → bytes_eq name (codes "changes") ≡ u → bytes_eq name (codes "newest") ≡ p
+      → cond s (show_at false fields) (cond t (show_at true fields) (cond u (changes_at fields) (cond p (newest_at fields) None))) ≡ Some c → CommandForm c line
+  go true t u p f1 f2 f3 f4 e = show_form false line fields c (named (codes "show") f1) e
+  go false true u p f1 f2 f3 f4 e = show_form true line fields c (named (codes "show3") f2) e
+  go false false true p f1 f2 f3 f4 e = changes_form line fields c (named (codes "changes") f3) e
+  go false false false true f1 f2 f3 f4 e = newest_form line fields c (named (codes "newest") f4) e
+  go false false false false f1 f2 f3 f4 e = absurd cc
 
 -- ---- whole lines
 words_form : (line : List ℕ) (c : Command) → words_at line ≡ Some c → CommandForm c line
@@ -326,7 +327,8 @@ words_read line (read Latest) n j = absurd n
 words_read line (read Left) n j = absurd n
 words_read line (read Hub) n j = absurd n
 words_read line (read Stats) n j = absurd n
-words_read line (read (Show version first count)) n j = rw (named_line (codes "show") line j (lacks_all 32 (codes "show") refl), show_read j.second version first count j.after) refl
+words_read line (read (Show version first count false)) n j = rw (named_line (codes "show") line j (lacks_all 32 (codes "show") refl), show_read false j.second version first count j.after) refl
+words_read line (read (Show version first count true)) n j = rw (named_line (codes "show3") line j (lacks_all 32 (codes "show3") refl), show_read true j.second version first count j.after) refl
 words_read line (read (Changes from count)) n j = rw (named_line (codes "changes") line j (lacks_all 32 (codes "changes") refl), changes_read j.second from count j.after) refl
 words_read line (read (Newest node)) n j = rw (named_line (codes "newest") line j (lacks_all 32 (codes "newest") refl), newest_read j.second node j.after) refl
 
@@ -342,7 +344,7 @@ command_read line (read Latest) j = alone_read line (codes "latest") Latest refl
 command_read line (read Left) j = alone_read line (codes "left") Left refl j
 command_read line (read Hub) j = alone_read line (codes "hub") Hub refl j
 command_read line (read Stats) j = alone_read line (codes "stats") Stats refl j
-command_read line (read (Show version first count)) j = spoken line _ (words_read line (read (Show version first count)) tt j)
+command_read line (read (Show version first count further)) j = spoken line _ (words_read line (read (Show version first count further)) tt j)
 command_read line (read (Changes from count)) j = spoken line _ (words_read line (read (Changes from count)) tt j)
 command_read line (read (Newest node)) j = spoken line _ (words_read line (read (Newest node)) tt j)
 

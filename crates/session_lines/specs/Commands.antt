@@ -1,5 +1,6 @@
 -- What a line of a session asks for, other than a change's.
-use Rattle.std.specs.Prelude.{◌≡◌, ◌≢◌, ℕ, ◌^◌, ◌<◌, ◌≤◌, List, length, codes, Option, None, Some, Result, Ok, Err}
+use Rattle.std.specs.Prelude.{◌≡◌, ◌≢◌, ℕ, ◌^◌, ◌<◌, ◌≤◌, Bool, true, false, List, length, codes}
+use Rattle.std.specs.Prelude.{Option, None, Some, Result, Ok, Err}
 use Rattle.std.specs.List.{AllByRecursion}
 use Rattle.hex.specs.Hex.{decode_of}
 use Rattle.hex.specs.declared.error.FromHexError.{FromHexError}
@@ -56,6 +57,11 @@ name_of One = codes "sub"
 name_of Two = codes "sub2"
 name_of Three = codes "sub3"
 
+-- the word for a look at spans, without or with the keys of the third form of changes
+abbrev pub show_word : Bool → List ℕ
+show_word false = codes "show"
+show_word true = codes "show3"
+
 -- a line, without its LF
 abbrev pub CommandForm : Command → List ℕ → Type 0
 CommandForm (subscribe profile capacity digits None) = Word (name_of profile) ⎵ Number capacity ⎵ OneWord digits
@@ -67,7 +73,8 @@ CommandForm (read Latest) = Word (codes "latest")
 CommandForm (read Left) = Word (codes "left")
 CommandForm (read Hub) = Word (codes "hub")
 CommandForm (read Stats) = Word (codes "stats")
-CommandForm (read (Show version first count)) = Word (codes "show") ⎵ Number version ⎵ Number first ⎵ Count count
+CommandForm (read (Show version first count further)) =
+    Word (show_word further) ⎵ Number version ⎵ Number first ⎵ Count count
 CommandForm (read (Changes from count)) = Word (codes "changes") ⎵ Number from ⎵ FewChanges count
 CommandForm (read (Newest node)) = Word (codes "newest") ⎵ Number node
 

@@ -1,5 +1,5 @@
 -- Reading a line from left to right.
-use Rattle.std.specs.Prelude.{ℕ, nat_le, ◌==◌, ◌&&◌, not, Bool, if◌then◌else◌, List, length}
+use Rattle.std.specs.Prelude.{ℕ, nat_le, ◌==◌, ◌&&◌, not, Bool, true, false, if◌then◌else◌, List, length}
 use Rattle.std.specs.Prelude.{codes, Option, Some, None}
 use Rattle.std.specs.List.{list_all}
 use Rattle.std.specs.Str.{bytes_eq}
@@ -59,14 +59,14 @@ close_at fields = do
   subscriber ← small (number_in 10 fields)
   Some (close subscriber)
 
-unfoldable pub show_at : List ℕ → Option Command
-show_at fields = do
+unfoldable pub show_at : Bool → List ℕ → Option Command
+show_at further fields = do
   parts ← split 32 fields
   more ← split 32 parts.1
   version ← small (number_in 10 parts.0)
   first ← small (number_in 10 more.0)
   count ← small (number_in 10 more.1)
-  if is_count count then Some (read (Show version first count)) else None
+  if is_count count then Some (read (Show version first count further)) else None
 
 unfoldable pub changes_at : List ℕ → Option Command
 changes_at fields = do
@@ -82,7 +82,8 @@ newest_at fields = do
 
 -- what a line of several words says that asks to read
 abbrev pub query_at : List ℕ → List ℕ → Option Command
-query_at name fields = if bytes_eq name (codes "show") then show_at fields else
+query_at name fields = if bytes_eq name (codes "show") then show_at false fields else
+    if bytes_eq name (codes "show3") then show_at true fields else
     if bytes_eq name (codes "changes") then changes_at fields else
     if bytes_eq name (codes "newest") then newest_at fields else None
 

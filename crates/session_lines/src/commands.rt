@@ -39,6 +39,8 @@ const STATS: &[u8] = b"stats";
 
 const SHOW: &[u8] = b"show";
 
+const SHOW_THREE: &[u8] = b"show3";
+
 const CHANGES: &[u8] = b"changes";
 
 const NEWEST: &[u8] = b"newest";
@@ -143,10 +145,10 @@ fn close_in(fields: &[u8]) -> Option<LentCommand<'_>>
     Some(LentCommand::Close { subscriber })
 }
 
-/// What follows `show`.
+/// What follows `show`, or `show3` where keys of the third form of changes are asked for too.
 #[tactic(auto, unfolding(crate::specs::Reading::show_at))]
-fn show_in(fields: &[u8]) -> Option<LentCommand<'_>>
-    ensures { option_map said result ≡ show_at fields.now }
+fn show_in(further: bool, fields: &[u8]) -> Option<LentCommand<'_>>
+    ensures { option_map said result ≡ show_at further fields.now }
 {
     let (version, rest) = word_of(fields)?;
     let (first, count) = word_of(rest)?;
@@ -160,6 +162,7 @@ fn show_in(fields: &[u8]) -> Option<LentCommand<'_>>
         version,
         first,
         count,
+        further,
     }))
 }
 
@@ -191,7 +194,9 @@ fn query_in<'a>(name: &[u8], fields: &'a [u8]) -> Option<LentCommand<'a>>
     ensures { option_map said result ≡ query_at name.now fields.now }
 {
     if name == SHOW {
-        show_in(fields)
+        show_in(false, fields)
+    } else if name == SHOW_THREE {
+        show_in(true, fields)
     } else if name == CHANGES {
         changes_in(fields)
     } else if name == NEWEST {

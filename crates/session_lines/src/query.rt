@@ -9,11 +9,12 @@ pub enum Query {
     Hub,
     /// How much there is of the hub.
     Stats,
-    /// `count` spans of a version, from this one on, 1 to 1,024.
+    /// `count` spans of a version, from this one on, 1 to 1,024; `further` with keys of the third form of changes.
     Show {
         version: u64,
         first: u64,
         count: u64,
+        further: bool,
     },
     /// `count` accepted changes behind this version, 1 to 64.
     Changes {

@@ -22,13 +22,13 @@ use Rattle.session_lines.specs.declared.reply.Reply.TheVariants as reply
 use Rattle.session_reads.specs.Counting.{IsLeft, AreStats}
 
 -- `most` spans of a version, from one of them on, and how many it has; or no version had the number
-abbrev pub Shows : Size → Seen → Seen → ℕ → ℕ → ℕ → List ℕ → Reply → Type 0
-Shows size v w number first most text (reply.Spans count) =
+abbrev pub Shows : Size → Seen → Seen → ℕ → ℕ → ℕ → Bool → List ℕ → Reply → Type 0
+Shows size v w number first most further text (reply.Spans count) =
     (token : Token Version) × IsLook size v (λ s. slice_get s.versions number ≡ Some token) w
-    × (text ≡ some_lines first most token.value) × (count ≡ length token.value.rows)
-Shows size v w number first most text (reply.Refused reason.NoVersion) =
+    × (text ≡ some_lines further first most token.value) × (count ≡ length token.value.rows)
+Shows size v w number first most further text (reply.Refused reason.NoVersion) =
     IsLook size v (λ s. slice_get s.versions number ≡ None) w × (text ≡ [])
-Shows size v w number first most text _ = ⊥
+Shows size v w number first most further text _ = ⊥
 
 -- the texts of changes, one behind the other, and how many they are
 abbrev pub AreTexts : List Change → List ℕ → ℕ → Type 0
@@ -71,7 +71,8 @@ Tells size v w id memory Hub text answer = Names id answer × (text ≡ []) × (
 Tells size v w id memory Stats text (reply.Stats stats) =
     IsLook size v (λ s. AreStats size memory s stats) w × (text ≡ [])
 Tells size v w id memory Stats text _ = ⊥
-Tells size v w id memory (Show number first most) text answer = Shows size v w number first most text answer
+Tells size v w id memory (Show number first most further) text answer =
+    Shows size v w number first most further text answer
 Tells size v w id memory (Changes from most) text answer = Lists size v w from most text answer
 Tells size v w id memory (Newest node) text answer = Counts size v w node answer × (text ≡ [])
 

@@ -20,26 +20,36 @@ use std::sync::Wait;
 use std::sync::ledger::Ledger;
 use version_history::published::{Naming, Published};
 
+/// Which spans are asked for: `most` of the version of this number, from the one of index `first` on.
+#[derive(Clone, Copy)]
+struct Excerpt {
+    number: u64,
+    first: u64,
+    most: u64,
+    /// Whether keys of the third form of changes are told.
+    further: bool,
+}
+
 /// `most` spans of a version, from one of them on.
 fn show<'a, N: Naming + HistoryNaming + Ledger, R: Wait + Copy>(
     rt: &R,
     hub: &Hub<'_, N, R>,
     share: &mut Share<N>,
     published: &'a Published<'_, N>,
-    number: u64,
-    first: u64,
-    most: u64,
+    excerpt: Excerpt,
 ) -> Answer<'a>
-    ensures { Shows N.size share.old share.new number first most (found_text result.found) result.reply }
+    ensures { Shows N.size share.old share.new excerpt.number excerpt.first excerpt.most excerpt.further
+        (found_text result.found) result.reply }
 {
-    let Some(token) = hub.version(rt, share, number) else {
+    let Some(token) = hub.version(rt, share, excerpt.number) else {
         return Answer::line(Reply::Refused(Reason::NoVersion));
     };
     let version = published.look(&token);
     let spans = SomeSpans {
         version,
-        first: first as usize,
-        most: most as usize,
+        first: excerpt.first as usize,
+        most: excerpt.most as usize,
+        further: excerpt.further,
     };
     Answer {
         found: Found::Spans(spans),
@@ -117,7 +127,16 @@ fn told<'a, N: Naming + HistoryNaming + Ledger, R: Wait + Copy>(
             version,
             first,
             count,
-        } => Ok(show(rt, hub, share, published, version, first, count)),
+            further,
+        } => {
+            let excerpt = Excerpt {
+                number: version,
+                first,
+                most: count,
+                further,
+            };
+            Ok(show(rt, hub, share, published, excerpt))
+        }
         Query::Changes { from, count } => list(rt, hub, share, from, count),
         Query::Newest { node } => Ok(Answer::line(count(rt, hub, share, node))),
     }

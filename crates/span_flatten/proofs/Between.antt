@@ -5,7 +5,6 @@ use Rattle.change_ops.specs.Operations.{key_of}
 use Rattle.change_ops.specs.declared.id.OpId.{OpId}
 use Rattle.change_ops.specs.declared.attribute.Key.{Key}
 use Rattle.change_ops.specs.declared.attribute.Attribute.{Attribute}
-use Rattle.change_ops.specs.declared.attribute.Attribute.TheVariants.{Strong, Em, Code, Link, Color, Comment}
 use Rattle.change_ops.specs.declared.operation.Op.{Op}
 use Rattle.char_sequence.specs.declared.sequence.Element.{Element}
 use Rattle.char_sequence.specs.Order.{Shows}
@@ -14,6 +13,7 @@ use Rattle.mark_anchors.specs.Formatting.{Format}
 use Rattle.mark_anchors.specs.Marks.{AreMarks}
 use Rattle.mark_anchors.specs.Ranges.{IsUniform}
 use Rattle.mark_anchors.proofs.Deciding.{touches_from_place, place_from_touches, of_key_from_touches, mark_from_key}
+use Rattle.mark_anchors.proofs.FormatLaws.{format_carried}
 
 -- each mark that touches the one character touches the other
 abbrev TouchAlike : List Op → OpId → OpId → Type 0
@@ -25,18 +25,7 @@ module _ (ops : List Op) (e f : OpId) (there : TouchAlike ops e f) (back : Touch
       (o, record { held = decides.held; touches = there (key_of a) o decides.held decides.touches; greatest = λ p held t. decides.greatest p held (back (key_of a) p held t) }, is)
 
 format_along : (ops : List Op) (e f : OpId) → TouchAlike ops e f → TouchAlike ops f e → (g : Format) → IsFormat ops e g → IsFormat ops f g
-format_along ops e f there back g is =
-    let to : (a : Attribute) → Bears ops e a → Bears ops f a = bears_along ops e f there back in
-    let from : (a : Attribute) → Bears ops f a → Bears ops e a = bears_along ops f e back there in
-    record {
-      strong = (λ t. to Strong (is.strong.0 t), λ b. is.strong.1 (from Strong b));
-      em = (λ t. to Em (is.em.0 t), λ b. is.em.1 (from Em b));
-      code = (λ t. to Code (is.code.0 t), λ b. is.code.1 (from Code b));
-      link = λ target. (λ t. to (Link target) ((is.link target).0 t), λ b. (is.link target).1 (from (Link target) b));
-      color = λ rgb. (λ t. to (Color rgb) ((is.color rgb).0 t), λ b. (is.color rgb).1 (from (Color rgb) b));
-      comments = λ n. (λ t. to (Comment n) ((is.comments n).0 t), λ b. (is.comments n).1 (from (Comment n) b));
-      rising = is.rising;
-    }
+format_along ops e f there back = format_carried ops ops e f (bears_along ops e f there back) (bears_along ops f e back there)
 
 module _ (ops : List Op) (es : List Element) (marks : List Op) (low high : ℕ) (h : Shows es ops) (are : AreMarks ops marks) (uniform : IsUniform es marks low high) where
   touch_alike : (i j : ℕ) (e f : Element) → low ≤ i → i < high → low ≤ j → j < high → slice_get es i ≡ Some e → slice_get es j ≡ Some f → TouchAlike ops e.id f.id

@@ -3,3 +3,4 @@ pub mod Commas
 pub mod Numbered
 pub mod SpanPrinting
 pub mod Some
+pub mod PrintedForms

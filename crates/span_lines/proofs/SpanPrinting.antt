@@ -1,14 +1,11 @@
--- Which bytes are escaped, and what is written of colors.
-use Rattle.std.proofs.Common.{◌≡◌, ◌≢◌, ℕ, suc, ◌-◌, ◌^◌, ◌<◌, false, List, [], ◌∷◌, ◌++◌, length, get_or, refl, sym, ap, ◌∙◌, arith, inl, inr}
+-- Which bytes are escaped.
+use Rattle.std.proofs.Common.{◌≡◌, ◌≢◌, ℕ, suc, ◌<◌, List, [], ◌∷◌, ◌++◌, length, get_or, refl, sym, ap, ◌∙◌, arith, inl, inr}
 use Rattle.std.specs.Prelude.{encode_utf8, encode_utf8_all}
-use Rattle.std.specs.Fmt.{digits, padded_integral, format_spec}
 use Rattle.std.proofs.lemmas.List.{append-nil}
 use Rattle.std.proofs.lemmas.Bool.Decides.{eqb_tells}
 use Rattle.std.proofs.lemmas.Grind.{flat_map-append}
 use Rattle.std.proofs.lemmas.Str.{encodes-append, encodes-chars, inside_one}
 use Rattle.std.specs.Str.{chars, IsUtf8}
-use Rattle.change_ops.specs.Spelling.{last_digits}
-use Rattle.change_ops.proofs.Numerals.{six_written}
 use Rattle.span_lines.specs.SpanLines.{escaped_byte, escaped}
 
 -- a byte that is neither of the two
@@ -42,7 +39,3 @@ escaped_part part text rest utf8 is =
     let cut : encode_utf8_all text ≡ part ++ encode_utf8_all rest =
     ap encode_utf8_all is ∙ encodes-append (chars part) rest ∙ ap (λ l. l ++ encode_utf8_all rest) (encodes-chars part utf8) in
     ap escaped cut ∙ flat_map-append escaped_byte part (encode_utf8_all rest)
-
--- ---- what is written of a color
-pub color_written : (n : ℕ) → n < 16 ^ 6 → padded_integral (format_spec 32 0 4 6 (2 ^ 64 - 1)) false [] (digits 16 false n) ≡ last_digits 6 n ++ []
-color_written n small = six_written n small ∙ sym (append-nil (last_digits 6 n))

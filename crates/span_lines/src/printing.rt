@@ -1,14 +1,18 @@
 //! Printing the spans of a version, a line a span.
-ghost use Rattle.std.specs.Prelude.{◌≡◌, ◌++◌, [], Some, if◌then◌else◌, IfOk, codes, map, string_bytes};
-ghost use Rattle.std.specs.Prelude.{encode_utf8, encode_utf8_all};
+ghost use Rattle.std.specs.Prelude.{◌≡◌, ◌++◌, ◌+◌, ◌-◌, ◌<◌, ◌≤◌, [], Some, if◌then◌else◌, IfOk, codes, map};
+ghost use Rattle.std.specs.Prelude.{string_bytes, encode_utf8, encode_utf8_all};
 ghost use Rattle.std.specs.Fmt.{WritesOnOk};
-ghost use Rattle.std.specs.Option.{option_copied};
+ghost use Rattle.change_ops.specs.declared.keys.TheConstants.{KEYS};
+ghost use Rattle.mark_anchors.specs.Formatting.{value_in};
+ghost use Rattle.mark_anchors.specs.Values.{lent};
 ghost use Rattle.span_flatten.specs.Version.{spans_of as spans_in};
-ghost use Rattle.span_lines.specs.SpanLines.{flag_keys, link_keys, color_keys, comment_key, parted, format_text};
+ghost use Rattle.span_lines.specs.SpanLines.{begun, comment_key, key_with, row_keys, parted, format_text};
 ghost use Rattle.span_lines.specs.SpanLines.{escaped, some_lines, span_line, span_lines};
+ghost use Rattle.span_lines.specs.Writes.{AddsOnOk};
 
-use change_ops::attribute::{Color, Link};
+use change_ops::keys::{KEYS, KeyRow};
 use mark_anchors::format::Format;
+use mark_anchors::value_ref::ValueRef;
 use std::alloc::{AllocError, Global};
 use std::fmt;
 use std::string::ToString;
@@ -29,120 +33,106 @@ impl fmt::Display for Comma {
     }
 }
 
-/// A key without a value, where it holds.
-#[derive(Clone, Copy)]
-struct Flag<'a> {
+/// Rows of the keys that stand before comments: those that the first two forms of changes know.
+pub const BEFORE_COMMENTS: usize = 5;
+
+/// Writes the key of a row with its value.
+fn write_key<W: fmt::Write>(
+    f: &mut fmt::Formatter<W>,
+    row: KeyRow,
+    value: ValueRef<'_>,
     behind: bool,
-    holds: bool,
-    name: &'a str,
-}
-
-impl fmt::Display for Flag<'_> {
-    ghost output = { λ flag. Some (parted flag.behind (flag_keys flag.holds flag.name.now)) };
-
-    fn fmt<W: fmt::Write>(&self, f: &mut fmt::Formatter<W>) -> fmt::Result {
-        if !self.holds {
-            return Ok(());
-        }
-        write!(f, "{}{}", Comma(self.behind), self.name)
+) -> fmt::Result
+    ensures { WritesOnOk W.write_str_gives f.old result (parted behind (key_with row (Some (lent value.entry)))) f.new }
+{
+    let comma = Comma(behind);
+    let word = row.word();
+    match value {
+        ValueRef::Nothing => write!(f, "{comma}{word}"),
+        ValueRef::Link(link) => write!(f, "{comma}{word}={}", link.target()),
+        ValueRef::Color(color) => write!(f, "{comma}{word}={:06x}", color.rgb()),
+        ValueRef::LineKind(kind) => write!(f, "{comma}{word}={}", kind.word()),
     }
 }
 
-#[derive(Clone, Copy)]
-struct LinkKey<'a> {
+/// Writes the key of a row with its value, where it holds. Whether a key then stands before what comes next.
+fn write_row<W: fmt::Write>(
+    f: &mut fmt::Formatter<W>,
+    format: &Format,
+    row: usize,
     behind: bool,
-    link: Option<&'a Link>,
+) -> Result<bool, fmt::Error>
+    requires { row < KEYS }
+    ensures writes { AddsOnOk W.write_str_gives f.old result
+        (parted behind (key_with row (value_in format.now row))) f.new }
+    ensures begun { IfOk result (λ after. after ≡ begun behind (key_with row (value_in format.now row))) }
+{
+    let Some(key) = KeyRow::new(row) else {
+        return Ok(behind);
+    };
+    let Some(value) = format.value(key) else {
+        return Ok(behind);
+    };
+    write_key(f, key, value, behind)?;
+    Ok(true)
 }
 
-impl fmt::Display for LinkKey<'_> {
-    ghost output = { λ key. Some (parted key.behind (link_keys (option_copied key.link))) };
-
-    fn fmt<W: fmt::Write>(&self, f: &mut fmt::Formatter<W>) -> fmt::Result {
-        match self.link {
-            Some(link) => write!(f, "{}link={}", Comma(self.behind), link.target()),
-            None => Ok(()),
-        }
-    }
-}
-
-#[derive(Clone, Copy)]
-struct ColorKey {
+/// Writes the keys of `count` rows of a format from `first` on. Whether a key then stands before what comes next.
+fn write_rows<W: fmt::Write>(
+    f: &mut fmt::Formatter<W>,
+    format: &Format,
+    first: usize,
+    count: usize,
     behind: bool,
-    color: Option<Color>,
-}
-
-impl fmt::Display for ColorKey {
-    ghost output = { λ key. Some (parted key.behind (color_keys key.color)) };
-
-    fn fmt<W: fmt::Write>(&self, f: &mut fmt::Formatter<W>) -> fmt::Result {
-        match self.color {
-            Some(color) => write!(f, "{}color={:06x}", Comma(self.behind), color.rgb()),
-            None => Ok(()),
-        }
+) -> Result<bool, fmt::Error>
+    requires { first + count ≤ KEYS }
+    ensures writes { AddsOnOk W.write_str_gives f.old result (parted behind (row_keys format.now first count)) f.new }
+    ensures begun { IfOk result (λ after. after ≡ begun behind (row_keys format.now first count)) }
+{
+    let mut begun = behind;
+    for row in first..first + count {
+        begun = write_row(f, format, row, begun)?;
     }
+    Ok(begun)
 }
 
-/// The comments' keys of a format.
-#[derive(Clone, Copy)]
-struct CommentKeys<'a> {
+/// Writes the comments' keys of a format. Whether a key then stands before what comes next.
+fn write_comments<W: fmt::Write>(
+    f: &mut fmt::Formatter<W>,
+    format: &Format,
     behind: bool,
-    format: &'a Format,
+) -> Result<bool, fmt::Error>
+    ensures writes { AddsOnOk W.write_str_gives f.old result
+        (parted behind (map comment_key format.now.comments)) f.new }
+    ensures begun { IfOk result (λ after. after ≡ begun behind (map comment_key format.now.comments)) }
+{
+    let mut begun = behind;
+    for comment in format.comments() {
+        write!(f, "{}comment:{}", Comma(begun), comment.number())?;
+        begun = true;
+    }
+    Ok(begun)
 }
 
-impl fmt::Display for CommentKeys<'_> {
-    ghost output = { λ keys. Some (parted keys.behind (map comment_key keys.format.now.comments)) };
-
-    fn fmt<W: fmt::Write>(&self, f: &mut fmt::Formatter<W>) -> fmt::Result {
-        let mut behind = self.behind;
-        for comment in self.format.comments() {
-            write!(f, "{}comment:{}", Comma(behind), comment.number())?;
-            behind = true;
-        }
-        Ok(())
-    }
+/// How many rows are printed behind comments: none to a reader that knows none of their keys.
+fn further_rows(further: bool) -> usize
+    ensures { result ≡ (if further then KEYS - BEFORE_COMMENTS else 0) }
+{
+    if further { KEYS - BEFORE_COMMENTS } else { 0 }
 }
 
-/// The keys of a format that hold, with their values and a comma between each two; `plain` where there is none.
-#[derive(Clone, Copy)]
-struct Keys<'a>(&'a Format);
-
-impl fmt::Display for Keys<'_> {
-    ghost output = { λ keys. Some (format_text keys.0.now) };
-
-    fn fmt<W: fmt::Write>(&self, f: &mut fmt::Formatter<W>) -> fmt::Result {
-        let format = self.0;
-        if format.is_plain() {
-            return f.write_str("plain");
-        }
-        let strong = Flag {
-            behind: false,
-            holds: format.strong(),
-            name: "strong",
-        };
-        let em = Flag {
-            behind: strong.holds,
-            holds: format.em(),
-            name: "em",
-        };
-        let code = Flag {
-            behind: em.behind | em.holds,
-            holds: format.code(),
-            name: "code",
-        };
-        let link = LinkKey {
-            behind: code.behind | code.holds,
-            link: format.link(),
-        };
-        let color = ColorKey {
-            behind: link.behind | link.link.is_some(),
-            color: format.color(),
-        };
-        let comments = CommentKeys {
-            behind: color.behind | color.color.is_some(),
-            format,
-        };
-        write!(f, "{strong}{em}{code}{link}{color}{comments}")
-    }
+/// Writes the keys of a format that hold, with their values and a comma between each two; `plain` where there is none.
+fn write_keys<W: fmt::Write>(
+    f: &mut fmt::Formatter<W>,
+    format: &Format,
+    further: bool,
+) -> fmt::Result
+    ensures { WritesOnOk W.write_str_gives f.old result (format_text further format.now) f.new }
+{
+    let begun = write_rows(f, format, 0, BEFORE_COMMENTS, false)?;
+    let begun = write_comments(f, format, begun)?;
+    let begun = write_rows(f, format, BEFORE_COMMENTS, further_rows(further), begun)?;
+    if begun { Ok(()) } else { f.write_str("plain") }
 }
 
 fn write_character<W: fmt::Write>(f: &mut fmt::Formatter<W>, character: char) -> fmt::Result
@@ -185,10 +175,13 @@ fn write_span<W: fmt::Write>(
     f: &mut fmt::Formatter<W>,
     index: usize,
     span: SpanText<'_>,
+    further: bool,
 ) -> fmt::Result
-    ensures { WritesOnOk W.write_str_gives f.old result (span_line index span.entry) f.new }
+    ensures { WritesOnOk W.write_str_gives f.old result (span_line further index span.entry) f.new }
 {
-    write!(f, "{index} {} ", Keys(span.format))?;
+    write!(f, "{index} ")?;
+    write_keys(f, span.format, further)?;
+    f.write_str(" ")?;
     write_text(f, span.text)?;
     f.write_str("\n")
 }
@@ -203,7 +196,7 @@ impl fmt::Display for AllSpans<'_> {
     fn fmt<W: fmt::Write>(&self, f: &mut fmt::Formatter<W>) -> fmt::Result {
         let indices = 0..self.0.span_count();
         for (index, span) in indices.zip(spans_from(self.0, 0)) {
-            write_span(f, index, span)?;
+            write_span(f, index, span, true)?;
         }
         Ok(())
     }
@@ -223,17 +216,19 @@ pub struct SomeSpans<'a> {
     pub version: &'a PieceVersion,
     pub first: usize,
     pub most: usize,
+    /// Whether keys of the third form of changes are printed.
+    pub further: bool,
 }
 
 impl fmt::Display for SomeSpans<'_> {
-    ghost output = { λ some. Some (some_lines some.first some.most some.version.now) };
+    ghost output = { λ some. Some (some_lines some.further some.first some.most some.version.now) };
 
     fn fmt<W: fmt::Write>(&self, f: &mut fmt::Formatter<W>) -> fmt::Result {
         let indices = self.first..self.version.span_count();
         let spans = spans_from(self.version, self.first);
         for (index, span) in indices.zip(spans).take(self.most) {
             f.write_str("span ")?;
-            write_span(f, index, span)?;
+            write_span(f, index, span, self.further)?;
         }
         Ok(())
     }

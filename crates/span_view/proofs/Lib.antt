@@ -1,1 +1,2 @@
+pub mod ContextRows
 pub mod Views

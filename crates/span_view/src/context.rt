@@ -1,8 +1,10 @@
 ghost use Rattle.std.specs.Prelude.{◌≡◌, ◌≤◌, chars, length, unwrap_or};
 ghost use Rattle.span_context.specs.Context.{Fits, span_bytes};
+ghost use Rattle.mark_anchors.specs.Formatting.{color_in};
 ghost use Rattle.span_view.specs.ContextOf.{flag, flags_of, facts_of, context_of, link_of};
 
 use crate::view::SpanView;
+use change_ops::keys;
 use mark_anchors::format::Format;
 use span_context::context::{Context, Facts};
 
@@ -28,12 +30,12 @@ fn flag(holds: bool, bit: u32) -> u32
 fn flags(format: &Format) -> u32
     ensures { result ≡ flags_of format.now }
 {
-    flag(format.strong(), STRONG)
-        + flag(format.em(), EM)
+    flag(format.has(keys::STRONG), STRONG)
+        + flag(format.has(keys::EM), EM)
         + flag(format.link().is_some(), LINK)
         + flag(format.color().is_some(), COLOR)
         + flag(format.comment_count() > 0, COMMENT)
-        + flag(format.code(), CODE)
+        + flag(format.has(keys::CODE), CODE)
 }
 
 /// A text has no more characters than bytes, so their count has 32 bits.
@@ -55,7 +57,7 @@ pub fn link<'a>(span: &SpanView<'a>) -> &'a [u8]
 }
 
 fn color_number(format: &Format) -> u32
-    ensures { result ≡ unwrap_or format.now.color 0 }
+    ensures { result ≡ unwrap_or (color_in format.now) 0 }
 {
     match format.color() {
         Some(color) => color.rgb(),

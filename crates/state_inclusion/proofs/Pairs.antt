@@ -20,7 +20,7 @@ use Rattle.abstract_state.specs.Lent.{Lengths, base_of}
 use Rattle.abstract_state.specs.Known.{ContainsKnown}
 use Rattle.abstract_state.specs.State.{Contains, ContainsRegister, ContainsSlot, Bytes, bytes_of, slot_at, register_at}
 use Rattle.abstract_state.specs.Estimate.{only, estimate_of}
-use Rattle.abstract_state.specs.Addresses.{content_of}
+use Rattle.abstract_state.specs.Addresses.{content_of, number_of}
 use Rattle.abstract_state.specs.Stacks.{eight_of, whole_in}
 use Rattle.abstract_state.specs.Situation.{register_of}
 use Rattle.abstract_state.proofs.Addresses.{known_fits}
@@ -37,7 +37,7 @@ use Rattle.value_marks.proofs.Words.{agree_narrower, distance_is}
 use Rattle.tracked_state.specs.declared.state.TrackedState.{TrackedState}
 use Rattle.tracked_state.specs.Tracked.{ContainsTracked, TrackedSituation, tracked_of}
 use Rattle.state_inclusion.specs.declared.partners.Holder.{Holder}
-use Rattle.state_inclusion.specs.Partners.{mark_at, mark_in, marks_in, number_of, holder_at, IsAheadByMarks, IsAheadByNumbers, IsMarkWithin, IsPairWithin, AreMarksWithin}
+use Rattle.state_inclusion.specs.Partners.{mark_at, mark_in, marks_in, holder_at, IsAheadByMarks, IsAheadByNumbers, IsMarkWithin, IsPairWithin, AreMarksWithin}
 use Rattle.state_inclusion.proofs.Naming.{Places, names_have_values}
 
 -- ---- what stands in a place of the machine

@@ -1,14 +1,10 @@
 -- Marks that follow from what a first state knows. A name means nothing by itself: it says how far its holders are
 -- apart, and the first state has to know that of each two of them.
 use Rattle.std.specs.Prelude.{◌≡◌, ◌⊎◌, ℕ, ◌+◌, ◌-◌, ◌<◌, nat_lt, if◌then◌else◌, Option, Some, None}
-use Rattle.std.specs.Prelude.{option_map, option_and_then, unwrap_or}
-use Rattle.span_context.specs.Context.{context_base}
+use Rattle.std.specs.Prelude.{option_and_then, unwrap_or}
 use Rattle.bpf_words.specs.declared.instruction.Width.{Width}
-use Rattle.semantics.specs.Memory.{stack_base}
 use Rattle.semantics.specs.Value.{cut}
-use Rattle.abstract_state.specs.Lent.{base_of}
-use Rattle.abstract_state.specs.Estimate.{only}
-use Rattle.abstract_state.specs.Addresses.{Content, ANumber, InContext, InStack, InRegion}
+use Rattle.abstract_state.specs.Addresses.{Content, number_of}
 use Rattle.abstract_state.specs.Stacks.{whole_in}
 use Rattle.abstract_state.specs.Situation.{Situation}
 use Rattle.value_marks.specs.declared.mark.Mark.{Mark}
@@ -29,13 +25,6 @@ mark_at a place = mark_in (marks_in a) place
 
 abbrev pub content_at : Situation → ℕ → Option Content
 content_at s place = if nat_lt place 11 then s.registers place else whole_in (s.slots (place - 11))
-
--- the one number that a place can hold
-abbrev pub number_of : Content → Option ℕ
-number_of (ANumber a) = only a
-number_of (InContext p) = Some (context_base + p)
-number_of (InStack p) = Some (stack_base + p)
-number_of (InRegion region a) = option_map (λ x. base_of region + x) (only a)
 
 -- what is known of a place: its mark, and its one number
 abbrev pub holder_at : TrackedSituation → ℕ → Holder

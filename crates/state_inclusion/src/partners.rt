@@ -2,7 +2,7 @@
 //! apart, and the other state has to know that of each two of them.
 ghost use Rattle.std.specs.Prelude.{◌≡◌, ◌↔◌, ℕ, ◌+◌, ◌<◌, IsTrue, Option, option_map, option_and_then};
 ghost use Rattle.semantics.specs.Value.{cut};
-ghost use Rattle.abstract_state.specs.Addresses.{content_of};
+ghost use Rattle.abstract_state.specs.Addresses.{content_of, number_of};
 ghost use Rattle.abstract_state.specs.Situation.{situation_of, register_of};
 ghost use Rattle.abstract_state.specs.Stacks.{eight_of, whole_in};
 ghost use Rattle.value_marks.specs.Mark.{narrower};
@@ -15,7 +15,6 @@ use abstract_state::known::Known;
 use abstract_state::slot::Slot;
 use abstract_state::state::{AbsReg, AbsState};
 use bpf_words::instruction::Width;
-use span_context::context::{CONTEXT, FRAME, STACK_BYTES};
 use tracked_state::state::TrackedState;
 use value_marks::mark::Mark;
 
@@ -76,26 +75,12 @@ fn known_at(state: &AbsState, place: usize) -> Option<Known>
 }
 
 /// The one number that can stand there.
-fn number_of(known: Known) -> Option<u64>
-    ensures { result ≡ rules.number_of (content_of known) }
-{
-    match known {
-        Known::Number(quantity) => quantity.only(),
-        Known::Context(address) => Some(CONTEXT + address.offset),
-        Known::Stack(address) => Some(FRAME - STACK_BYTES as u64 + address.offset),
-        Known::Lent(address) => {
-            let offset = address.offset.only()?;
-            Some(address.region.base() + offset)
-        }
-    }
-}
-
 fn number_at(state: &AbsState, place: usize) -> Option<u64>
     requires { place < 75 }
-    ensures { result ≡ option_and_then rules.number_of (rules.content_at (situation_of state.now) place) }
+    ensures { result ≡ option_and_then number_of (rules.content_at (situation_of state.now) place) }
 {
     let known = known_at(state, place)?;
-    number_of(known)
+    known.only()
 }
 
 fn holder_at(state: &TrackedState, place: usize) -> Holder

@@ -29,7 +29,7 @@ pub struct Marks {
 }
 
 /// Whether a register may hold one of several numbers, or of several addresses in a lent region.
-fn varies(register: AbsReg) -> bool
+pub fn varies(register: AbsReg) -> bool
     ensures { result ≡ rules.varies (register_of register) }
 {
     match register {
@@ -53,7 +53,7 @@ fn fits_narrow(register: AbsReg) -> bool
 
 /// The mark of a place that the instruction at a slot copies: its own, or a new one where the value may vary.
 #[tactic(auto, unfolding(crate::specs::Marking::named))]
-fn named(at: usize, content: AbsReg, mark: Option<Mark>) -> Option<Mark>
+pub fn named(at: usize, content: AbsReg, mark: Option<Mark>) -> Option<Mark>
     ensures { result ≡ rules.named at (register_of content) mark }
 {
     if let Some(mark) = mark {
@@ -183,7 +183,8 @@ impl Marks {
         }
     }
 
-    fn set_register(&mut self, register: Register, mark: Option<Mark>)
+    /// Writes the mark of a register.
+    pub fn set_register(&mut self, register: Register, mark: Option<Mark>)
         ensures { (w : Marking) → IsMarking self.old w → IsMarking self.new (rules.mark_register register mark w) }
     {
         self.registers[register.index()] = mark;

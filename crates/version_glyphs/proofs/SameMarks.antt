@@ -6,7 +6,6 @@ use Rattle.change_ops.specs.Operations.{AnchorNames, is_mark, key_of}
 use Rattle.change_ops.specs.declared.id.OpId.{OpId}
 use Rattle.change_ops.specs.declared.attribute.Key.{Key}
 use Rattle.change_ops.specs.declared.attribute.Attribute.{Attribute}
-use Rattle.change_ops.specs.declared.attribute.Attribute.TheVariants.{Strong, Em, Code, Link, Color, Comment}
 use Rattle.change_ops.specs.declared.operation.Anchor.{Anchor}
 use Rattle.change_ops.specs.declared.operation.Anchor.TheVariants.{TextStart, BeforeCharacter, AfterCharacter, TextEnd}
 use Rattle.change_ops.specs.declared.operation.Op.{Op}
@@ -20,6 +19,7 @@ use Rattle.mark_anchors.specs.Formatting.{Format}
 use Rattle.mark_anchors.specs.Marks.{AreMarks}
 use Rattle.mark_anchors.specs.Places.{IsBoundary, Lies}
 use Rattle.mark_anchors.proofs.Deciding.{mark_from_key, of_key_from_touches, place_from_touches, touches_from_place}
+use Rattle.mark_anchors.proofs.FormatLaws.{format_carried}
 
 -- ---- where a mark's anchors stand
 some_boundary : (ops : List Op) (es : List Element) → Shows es ops → (anchor : Anchor) → ((x : OpId) → AnchorNames anchor x → Present ops x) → (n : ℕ) × IsBoundary es anchor n
@@ -69,15 +69,5 @@ bears_across es marks ops others shows are shown also e place at a bears =
 
 pub format_across : (es : List Element) (marks ops others : List Op) → Shows es ops → AreMarks ops marks → Shows es others → AreMarks others marks → (e : OpId) (place : ℕ) → IsAt es e place
     → (f : Format) → IsFormat ops e f → IsFormat others e f
-format_across es marks ops others shows are shown also e place at f is =
-    let there : (a : Attribute) → Bears ops e a → Bears others e a = bears_across es marks ops others shows are shown also e place at in
-    let back : (a : Attribute) → Bears others e a → Bears ops e a = bears_across es marks others ops shown also shows are e place at in
-    record {
-      strong = (λ t. there Strong (is.strong.0 t), λ b. is.strong.1 (back Strong b));
-      em = (λ t. there Em (is.em.0 t), λ b. is.em.1 (back Em b));
-      code = (λ t. there Code (is.code.0 t), λ b. is.code.1 (back Code b));
-      link = λ target. (λ t. there (Link target) ((is.link target).0 t), λ b. (is.link target).1 (back (Link target) b));
-      color = λ rgb. (λ t. there (Color rgb) ((is.color rgb).0 t), λ b. (is.color rgb).1 (back (Color rgb) b));
-      comments = λ n. (λ t. there (Comment n) ((is.comments n).0 t), λ b. (is.comments n).1 (back (Comment n) b));
-      rising = is.rising;
-    }
+format_across es marks ops others shows are shown also e place at =
+    format_carried ops others e e (bears_across es marks ops others shows are shown also e place at) (bears_across es marks others ops shown also shows are e place at)

@@ -6,13 +6,13 @@ use Rattle.std.proofs.lemmas.Bool.{cases_lt}
 use Rattle.std.proofs.lemmas.List.{get_or-drop, get_or-take, length-drop, length-take}
 use Rattle.std.proofs.lemmas.Option.{get_or_from_slice_get, slice_get-map, slice_get_read, slice_get_within}
 use Rattle.change_ops.specs.Attributes.{is_link}
-use Rattle.mark_anchors.specs.Formatting.{Format}
+use Rattle.mark_anchors.specs.Formatting.{Format, link_in}
 use Rattle.span_flatten.specs.Spans.{Span}
 use Rattle.version_history.specs.Links.{HasLink}
 
 -- if the format has a link, it is one
 abbrev pub IsLinked : Format → Type 0
-IsLinked format = IfSome format.link (λ target. IsTrue (is_link target))
+IsLinked format = IfSome (link_in format) (λ target. IsTrue (is_link target))
 
 -- so it is with so many of them
 abbrev pub AreLinked : List Format → ℕ → Type 0

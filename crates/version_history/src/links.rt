@@ -1,6 +1,7 @@
 //! That the links of spans are links.
 ghost use Rattle.std.specs.Prelude.{◌≡◌, ◌<◌, ◌≤◌, ℕ, IfSome, IsTrue, Some, slice_get};
 ghost use Rattle.change_ops.specs.Attributes.{is_link};
+ghost use Rattle.mark_anchors.specs.Formatting.{link_in};
 ghost use Rattle.span_flatten.specs.Spans.{Span};
 ghost use Rattle.span_flatten.specs.Version.{spans_of};
 ghost use Rattle.version_history.specs.Links.{HasLink};
@@ -11,7 +12,7 @@ use version_pieces::version::PieceVersion;
 
 /// The law that a format's link is one.
 pub fn keeps_link(format: &Format)
-    ensures { IfSome format.now.link (λ target. IsTrue (is_link target)) }
+    ensures { IfSome (link_in format.now) (λ target. IsTrue (is_link target)) }
 {
     if let Some(link) = format.link() {
         let _target = link.target();

@@ -1,7 +1,6 @@
 -- The format of a character that was there stays where no operation touches it.
 use Rattle.std.proofs.Common.{◌≡◌, ◌↔◌, ℕ, ◌<◌, ◌≤◌, ◌⊎◌, true, List, [], ◌∷◌, ◌++◌, inl, inr, sym, refl, subst, arith, ⊎_elim}
 use Rattle.std.specs.List.{Contains}
-use Rattle.std.specs.List.Sorted.{IsStrictlyIncreasing}
 use Rattle.std.proofs.lemmas.Bool.{true≢false}
 use Rattle.std.proofs.lemmas.List.Elements.{Contains-append_left, Contains-push_cases}
 use Rattle.change_ops.specs.declared.size.Size.{Size}
@@ -9,7 +8,6 @@ use Rattle.change_ops.specs.Operations.{key_of, is_edit, AnchorNames, Names}
 use Rattle.change_ops.specs.declared.id.OpId.{OpId}
 use Rattle.change_ops.specs.declared.attribute.Key.{Key}
 use Rattle.change_ops.specs.declared.attribute.Attribute.{Attribute}
-use Rattle.change_ops.specs.declared.attribute.Attribute.TheVariants.{Strong, Em, Code, Link, Color, Comment}
 use Rattle.change_ops.specs.declared.operation.Anchor.{Anchor}
 use Rattle.change_ops.specs.declared.operation.Anchor.TheVariants.{TextStart, BeforeCharacter, AfterCharacter, TextEnd}
 use Rattle.change_ops.specs.declared.operation.Op.{Op}
@@ -22,10 +20,9 @@ use Rattle.mark_anchors.specs.Anchors.{NotAfter, AtOrBefore}
 use Rattle.mark_anchors.specs.Format.{Touches, Decides, Bears, IsFormat}
 use Rattle.mark_anchors.specs.Formatting.{Format}
 use Rattle.mark_anchors.specs.Places.{Lies}
-use Rattle.mark_anchors.proofs.FormatLaws.{touches_kept}
+use Rattle.mark_anchors.proofs.FormatLaws.{touches_kept, format_carried}
 use Rattle.mark_anchors.proofs.Deciding.{place_from_touches}
 use Rattle.version_laws.specs.Later.{Extends}
-use Rattle.version_laws.specs.Marked.{Holds}
 use Rattle.version_laws.proofs.OrderKept.{before_same, extends_accepted}
 
 -- ---- what a mark whose anchors name characters that were there covers
@@ -65,30 +62,6 @@ edit_touches ops key e (Revive id removal) edit touches = touches
 edit_touches ops key e (AddMark id attribute start end) edit touches = true≢false (sym edit)
 edit_touches ops key e (RemoveMark id other start end) edit touches = true≢false (sym edit)
 
--- ---- formats by what they hold
-pub format_holds : (ops : List Op) (e : OpId) (f : Format) → IsFormat ops e f → (a : Attribute) → Holds f a ↔ Bears ops e a
-format_holds ops e f is Strong = is.strong
-format_holds ops e f is Em = is.em
-format_holds ops e f is Code = is.code
-format_holds ops e f is (Link target) = is.link target
-format_holds ops e f is (Color rgb) = is.color rgb
-format_holds ops e f is (Comment n) = is.comments n
-
-pub format_from_holds : (ops : List Op) (e : OpId) (f : Format) → ((a : Attribute) → Holds f a ↔ Bears ops e a) → IsStrictlyIncreasing f.comments → IsFormat ops e f
-format_from_holds ops e f holds rising = record {
-  strong = holds Strong;
-  em = holds Em;
-  code = holds Code;
-  link = λ target. holds (Link target);
-  color = λ rgb. holds (Color rgb);
-  comments = λ n. holds (Comment n);
-  rising = rising;
-}
-
-format_moved : (old new : List Op) (e : OpId) (f : Format) → ((a : Attribute) → Bears old e a → Bears new e a) → ((a : Attribute) → Bears new e a → Bears old e a) → IsFormat old e f → IsFormat new e f
-format_moved old new e f there back is =
-    format_from_holds new e f (λ a. (λ h. there a ((format_holds old e f is a).0 h), λ b. (format_holds old e f is a).1 (back a b))) is.rising
-
 -- ---- more operations, of which none touches the character
 module _ (old new : List Op) (t : IsTree old) (named : (o : Op) (x : OpId) → Contains old o → Names o x → Present old x)
     (h : Extends old new) (more : (o : Op) → Contains old o → Contains new o) (e : OpId) (at : Present old e) where
@@ -117,8 +90,8 @@ module _ (old new : List Op) (t : IsTree old) (named : (o : Op) (x : OpId) → C
   -- The format of a character stays where no later operation touches it.
   pub format_same : ((key : Key) (o : Op) → Contains new o → Touches new key e o → Contains old o) → (f : Format) → IsFormat old e f ↔ IsFormat new e f
   format_same none f = (
-    format_moved old new e f (λ a. (bears_same a (none (key_of a))).0) (λ a. (bears_same a (none (key_of a))).1),
-    format_moved new old e f (λ a. (bears_same a (none (key_of a))).1) (λ a. (bears_same a (none (key_of a))).0),
+    format_carried old new e e (λ a. (bears_same a (none (key_of a))).0) (λ a. (bears_same a (none (key_of a))).1) f,
+    format_carried new old e e (λ a. (bears_same a (none (key_of a))).1) (λ a. (bears_same a (none (key_of a))).0) f,
   )
 
 -- ---- one operation more

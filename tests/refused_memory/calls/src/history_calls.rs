@@ -5,6 +5,7 @@ use crate::stage::{Answer, Stage};
 use change_history::history::History;
 use change_history::refusal::SubmitError;
 use change_ops::id::OpId;
+use change_ops::keys::STRONG;
 use change_ops::size::Size;
 use std::alloc::{AllocError, Global};
 
@@ -45,7 +46,7 @@ fn format_found<R: Print>(stage: &Stage<'_, R>, history: &History) -> Result<boo
     let outcome = history.format_at(stage.alloc, id);
     stage.end()?;
     let answer = match &outcome {
-        Ok(Some(format)) if format.strong() => {
+        Ok(Some(format)) if format.has(STRONG) => {
             Answer::of(String::from_str(stage.alloc, "strong")?)
         }
         Ok(_) => Answer::of(String::from_str(stage.alloc, "not strong")?),

@@ -1,4 +1,5 @@
 use change_ops::change::{Change, read_change};
+use change_ops::keys::{CODE, STRONG};
 use change_ops::writing::write_change;
 use feeds::item::{Finding, Item};
 use mark_anchors::format::Format;
@@ -24,8 +25,8 @@ pub fn change_text(alloc: Global, change: &Change) -> Result<String, AllocError>
 fn push_format(alloc: Global, text: &mut String, format: &Format) -> Result<(), AllocError> {
     let keys = [
         (format.is_plain(), "plain "),
-        (format.strong(), "strong "),
-        (format.code(), "code "),
+        (format.has(STRONG), "strong "),
+        (format.has(CODE), "code "),
         (format.link().is_some(), "link "),
     ];
     for (is_set, name) in keys {

@@ -4,7 +4,7 @@ use Rattle.change_ops.specs.Reading.{Reads, line_in, line_verdict}
 use Rattle.change_ops.specs.declared.line.Line.{Line}
 use Rattle.change_ops.specs.declared.line.Line.TheVariants.{Removals, Revivals}
 use Rattle.change_ops.specs.declared.refusal.LineFault.{LineFault}
-use Rattle.change_ops.proofs.CodeLines.{as_line, op_line, reads_line, as_run, run_line, reads_run, as_counted, removals_line, revivals_line}
+use Rattle.change_ops.proofs.LineVerdicts.{as_line, op_line, reads_line, as_run, run_line, reads_run, as_counted, removals_line, revivals_line}
 use Rattle.change_ops.proofs.line_reading.line_of_change.Goals as goal
 
 pub returns-in_err-run : goal.returns-in_err-run

@@ -5,7 +5,7 @@ use Rattle.change_ops.specs.declared.attribute.Key.TheVariants as key
 use Rattle.change_ops.specs.declared.attribute.Attribute.TheVariants.{Comment}
 use Rattle.mark_anchors.proofs.Lists.{item_at}
 use Rattle.mark_anchors.proofs.Stretching.{bears_still}
-use Rattle.mark_anchors.proofs.Values.{one_comment}
+use Rattle.mark_anchors.proofs.KeyValues.{one_comment}
 use Rattle.mark_anchors.proofs.comment_runs.run_between.Goals as goal
 
 pub returns-then-not-holds_at-clause-along : goal.returns-then-not-holds_at-clause-along

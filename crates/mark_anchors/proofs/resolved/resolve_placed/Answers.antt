@@ -21,11 +21,7 @@ invariant_of-result c =
         ends_of_places c.args.marks.items c.deref-3.result.now c.in_ok-places_of.field-0.items c.in_ok-in_order.field-0.items c.deref-3.ensures.value
             c.in_ok-places_of.ensures.begins c.in_ok-places_of.ensures.ends c.in_ok-in_order.ensures.rising c.in_ok-in_order.ensures.members,
       );
-      strong = c.in_ok-marks_of.ensures es operations (read c.deref-4.result.now c.deref-4.ensures.value);
-      em = c.in_ok-marks_of-2.ensures es operations (read c.deref-5.result.now c.deref-5.ensures.value);
-      code = c.in_ok-marks_of-3.ensures es operations (read c.deref-6.result.now c.deref-6.ensures.value);
-      link = c.in_ok-marks_of-4.ensures es operations (read c.deref-7.result.now c.deref-7.ensures.value);
-      color = c.in_ok-marks_of-5.ensures es operations (read c.deref-8.result.now c.deref-8.ensures.value);
+      rows = c.in_ok-rows_of.ensures es operations (read c.deref-4.result.now c.deref-4.ensures.value);
       comments = subst (AreHolding es operations) (sym c.in_ok-new.ensures) (c.in_ok-runs.ensures.holding es (subst (AreCommented es operations) (sym c.deref-2.ensures.value) commented));
       orderly = subst AreOrderly (sym c.in_ok-new.ensures) c.in_ok-runs.ensures.orderly;
     }

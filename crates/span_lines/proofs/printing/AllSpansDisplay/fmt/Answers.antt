@@ -1,4 +1,4 @@
-use Rattle.std.proofs.Common.{◌≡◌, ◌++◌, ◌∙◌, ℕ, [], rules, ap, arith, length, ⊎_elim}
+use Rattle.std.proofs.Common.{◌≡◌, true, ◌++◌, ◌∙◌, ℕ, [], rules, ap, arith, length, ⊎_elim}
 use Rattle.std.proofs.Output.{has_written_append, has_written_of_eq, writes_in_calls_nil}
 use Rattle.std.specs.declared.ops.Range.{Range}
 use Rattle.std.specs.Iterator.Adapters.{zip_first, zip_second}
@@ -19,7 +19,7 @@ loop-index-init g c =
     let start : (zip_first pairs).start ≡ 0 = ap (λ (r : Range ℕ). r.start) range in
     let end : (zip_first pairs).end ≡ c.span_count.result = ap (λ (r : Range ℕ). r.end) range in
     record {
-      written = λ plain. ([], record { wrote = writes_in_calls_nil _ _; plain = plain }, same_numbered span_line (zip_first pairs).start 0 (zip_second pairs) spans start items);
+      written = λ plain. ([], record { wrote = writes_in_calls_nil _ _; plain = plain }, same_numbered (span_line true) (zip_first pairs).start 0 (zip_second pairs) spans start items);
       left = omega (arith, ap length items, rows_few c.args.self.now.0.now, c.span_count.ensures.value);
     }
 
@@ -31,9 +31,9 @@ loop-index-preserved g c =
     record {
       written = λ plain.
           let (done, wrote, is) = c.loop-index.invariant.written plain in (
-            done ++ span_line c.in-Some.index c.in-Some.span,
+            done ++ span_line true c.in-Some.index c.in-Some.span,
             has_written_append _ _ _ _ _ _ wrote (c.write_span.ensures wrote.plain (search rules)),
-            one_more span_line done (span_lines (spans_of c.args.self.now.0.now)) (zip_first before).start (zip_first after).start c.in-Some.index
+            one_more (span_line true) done (span_lines (spans_of c.args.self.now.0.now)) (zip_first before).start (zip_first after).start c.in-Some.index
                 (zip_second before) (zip_second after) c.in-Some.span is cut (omega arith) (omega arith),
           );
       left = omega (arith, ap length cut, range);
@@ -45,4 +45,4 @@ returns-clause-writes g c = λ plain ok.
     let (done, wrote, is) = c.loop-index.invariant.written plain in
     let few = c.loop-index.invariant.left in
     let ended : length (zip_second pairs) ≡ 0 = ⊎_elim (λ range. omega (arith, few, range.1)) (λ rest. ap length rest.1.0) c.in-None.ensures.steps in
-    has_written_of_eq _ _ _ _ _ (all_done span_line done (span_lines (spans_of c.args.self.now.0.now)) (zip_first pairs).start (zip_second pairs) is (nil_from_length (zip_second pairs) ended)) wrote
+    has_written_of_eq _ _ _ _ _ (all_done (span_line true) done (span_lines (spans_of c.args.self.now.0.now)) (zip_first pairs).start (zip_second pairs) is (nil_from_length (zip_second pairs) ended)) wrote

@@ -26,7 +26,7 @@ loop-index-init g c =
       written = λ plain. (
         [],
         record { wrote = writes_in_calls_nil _ _; plain = plain },
-        same_numbered named (zip_first pairs).start here.first (take (take_count taken) (zip_second pairs)) (take here.most spans) start some,
+        same_numbered (named here.further) (zip_first pairs).start here.first (take (take_count taken) (zip_second pairs)) (take here.most spans) start some,
       );
       left = omega (arith, ap length items, length-drop here.first (spans_of here.version.now), rows_few here.version.now, c.span_count.ensures.value);
     }
@@ -43,9 +43,9 @@ loop-index-preserved g c =
           let (done, wrote, is) = c.loop-index.invariant.written plain in
           let word = c.write_str.ensures.writes wrote.plain (search rules) in
           let line = c.write_span.ensures word.plain (search rules) in (
-            done ++ named c.in-Some.index c.in-Some.span,
+            done ++ named here.further c.in-Some.index c.in-Some.span,
             has_written_append _ _ _ _ _ _ wrote (has_written_append _ _ _ _ _ _ word line),
-            one_more_of named done (some_named here.first here.most here.version.now) (zip_first before).start (zip_first after).start c.in-Some.index
+            one_more_of (named here.further) done (some_named here.further here.first here.most here.version.now) (zip_first before).start (zip_first after).start c.in-Some.index
                 (take_count c.loop-index.index-iterator) (take_count c.next.new.self) (zip_second before) (zip_second after) c.in-Some.span is cut (omega arith) (omega arith) count,
           );
       left = omega (arith, ap length cut, range);
@@ -60,5 +60,5 @@ returns-clause-writes g c = λ plain ok.
     let few = c.loop-index.invariant.left in
     let ended : 0 < most → length (zip_second pairs) ≡ 0 = λ some.
     ⊎_elim (λ range. omega (arith, few, range.1)) (λ rest. ap length rest.1.0) (c.in-None.ensures.steps some) in
-    let whole = all_done named done (some_named here.first here.most here.version.now) (zip_first pairs).start (take most (zip_second pairs)) is (none_taken most (zip_second pairs) ended) in
-    has_written_of_eq _ _ _ _ _ (whole ∙ some_are here.version.now here.first here.most) wrote
+    let whole = all_done (named here.further) done (some_named here.further here.first here.most here.version.now) (zip_first pairs).start (take most (zip_second pairs)) is (none_taken most (zip_second pairs) ended) in
+    has_written_of_eq _ _ _ _ _ (whole ∙ some_are here.further here.version.now here.first here.most) wrote

@@ -10,6 +10,6 @@ invariant-loop-index g l =
     let pairs = take_source l.index-iterator in
     record {
       written : IsPlainFormatter l.initial.f → (done : List ℕ) × HasWritten g.W.Write.write_str_gives l.initial.f done l.f
-          × (done ++ numbered named (zip_first pairs).start (take (take_count l.index-iterator) (zip_second pairs)) ≡ some_named l.fn.self.first l.fn.self.most l.fn.self.version.now);
+          × (done ++ numbered (named l.fn.self.further) (zip_first pairs).start (take (take_count l.index-iterator) (zip_second pairs)) ≡ some_named l.fn.self.further l.fn.self.first l.fn.self.most l.fn.self.version.now);
       left : length (zip_second pairs) ≤ (zip_first pairs).end - (zip_first pairs).start;
     }

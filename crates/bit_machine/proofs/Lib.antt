@@ -1,0 +1,11 @@
+pub mod Words
+pub mod Sums
+pub mod Order
+pub mod Each
+pub mod Shifts
+pub mod Swaps
+pub mod Signs
+pub mod Division
+pub mod Operations
+pub mod Memory
+pub mod Steps

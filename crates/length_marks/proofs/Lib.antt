@@ -1,0 +1,11 @@
+pub mod Anew
+pub mod Copied
+pub mod Stored
+pub mod Loaded
+pub mod Fields
+pub mod Numbers
+pub mod Narrow
+pub mod Summed
+pub mod Followed
+pub mod Differences
+pub mod Others

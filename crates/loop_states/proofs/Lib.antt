@@ -1,0 +1,2 @@
+pub mod Bearing
+pub mod Landing

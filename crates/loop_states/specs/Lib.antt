@@ -1,0 +1,3 @@
+pub mod Contained
+pub mod Rules
+pub mod Within

@@ -1,0 +1,5 @@
+pub mod Products
+pub mod AtLeast
+pub mod Frame
+pub mod Sources
+pub mod Rests

@@ -1,0 +1,4 @@
+pub mod Same
+pub mod Leasts
+pub mod Sources
+pub mod Edges
