@@ -24,8 +24,6 @@ use Rattle.value_marks.specs.declared.copies.Copies.{Copies}
 use Rattle.value_marks.specs.Marking.{Marking}
 use Rattle.value_marks.specs.Copies.{AreMarking, kept}
 use Rattle.tracked_state.specs.declared.state.TrackedState.{TrackedState}
-use Rattle.tracked_state.specs.declared.stop.Stop.{Stop}
-use Rattle.tracked_state.specs.declared.branch.TrackedEdges.{TrackedEdges}
 use Rattle.tracked_state.specs.Tracked.{ContainsTracked, WithinTracked, IsTracked, beside, tracked}
 use Rattle.tracked_state.specs.Tracking.{TrackedEdge, AnswersTrackedStep, after_tracked}
 use Rattle.tracked_state.specs.Rules.{entry}
@@ -94,11 +92,7 @@ within_edge a (Some e) lengths s same bears (b, there, held) = (
   },
 )
 
-edge_in_loop : (a : TrackedState) (width : Width) (comparison : Comparison) (left : ℕ) (right : Operand) (taken : Bool) (edge : Option TrackedState) → IfSome edge (λ b. kept b.copies ≡ kept a.copies) → TrackedEdge a width comparison left right taken edge → EdgeInLoop a width comparison left right taken edge
+pub edge_in_loop : (a : TrackedState) (width : Width) (comparison : Comparison) (left : ℕ) (right : Operand) (taken : Bool) (edge : Option TrackedState) → IfSome edge (λ b. kept b.copies ≡ kept a.copies) → TrackedEdge a width comparison left right taken edge → EdgeInLoop a width comparison left right taken edge
 edge_in_loop a width comparison left right taken edge same goes = λ span s held.
     let (m, (n, one, other, within)) = goes span s (contains_tracked a (lengths_of span) s held) in
     (m, (n, one, other, λ h. within_edge a edge (lengths_of span) s same held.marks (within h)))
-
-pub edges_in_loop : (result : Result TrackedEdges Stop) (side : TrackedEdges → Option TrackedState) (a : TrackedState) (width : Width) (comparison : Comparison) (left : ℕ) (right : Operand) (taken : Bool) → IfOk result (λ edges. IfSome (side edges) (λ b. kept b.copies ≡ kept a.copies)) → IfOk result (λ edges. TrackedEdge a width comparison left right taken (side edges)) → IfOk result (λ edges. EdgeInLoop a width comparison left right taken (side edges))
-edges_in_loop (Ok edges) side a width comparison left right taken same goes = edge_in_loop a width comparison left right taken (side edges) same goes
-edges_in_loop (Err stop) side a width comparison left right taken same goes = tt

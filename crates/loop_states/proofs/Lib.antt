@@ -1,2 +1,5 @@
 pub mod Bearing
 pub mod Landing
+pub mod Ahead
+pub mod Sharpening
+pub mod Edges

@@ -3,6 +3,9 @@
 //! run may meet again. Each call keeps the machine states that it contains: `entry`, `step`, `branch`, `is_within`.
 #![tactic(auto)]
 
+pub mod branch;
+mod leads;
+pub mod sharper;
 pub mod state;
 #[cfg(test)]
 mod tests;

@@ -1,5 +1,5 @@
 //! From what is known before an instruction to what is known behind it.
-ghost use Rattle.std.specs.Prelude.{◌≡◌, ◌<◌, ℤ, true, false, Option, Ok, IfOk, option_map};
+ghost use Rattle.std.specs.Prelude.{◌≡◌, ◌<◌, ℤ, Option, Ok, IfOk, option_map};
 ghost use Rattle.semantics.specs.State.{State, start};
 ghost use Rattle.semantics.specs.Step.{On};
 ghost use Rattle.span_context.specs.declared.profile.Profile.TheVariants.{Three};
@@ -10,22 +10,19 @@ ghost use Rattle.value_marks.specs.Marking.{Marking};
 ghost use Rattle.value_marks.specs.Copies.{AreMarking, kept};
 ghost use Rattle.length_marks.specs.Following.{followed};
 ghost use Rattle.tracked_state.specs.Tracked.{IsTracked, tracked_of};
-ghost use Rattle.tracked_state.specs.Tracking.{AnswersTrackedStep, AnswersTrackedBranch, after_tracked};
+ghost use Rattle.tracked_state.specs.Tracking.{AnswersTrackedStep, after_tracked};
 ghost use Rattle.tracked_state.specs.Rules as plain;
-ghost use Rattle.loop_states.specs.Contained.{BearIn, ContainsInLoop, StepsInLoop, EdgeInLoop};
+ghost use Rattle.loop_states.specs.Contained.{BearIn, ContainsInLoop, StepsInLoop};
 ghost use Rattle.loop_states.specs.Rules as rules;
 
 use abstract_state::refusal::Refusal;
 use abstract_state::state::AbsState;
 use abstract_state::step::Flow;
-use bpf_words::instruction::{Comparison, Insn, Operand, Width};
-use bpf_words::register::Register;
+use bpf_words::instruction::Insn;
 use length_marks::following::follow;
 use span_context::profile::Profile;
 use std::alloc::{AllocError, Global};
-use tracked_state::branch::TrackedEdges;
 use tracked_state::state::TrackedState;
-use tracked_state::stop::Stop;
 use value_marks::copies::Copies;
 
 /// What is known at the start of each run.
@@ -61,20 +58,4 @@ pub fn step(state: &mut TrackedState, at: usize, insn: &Insn) -> Result<Flow, Re
 {
     follow_copies(&mut state.copies, at, insn, &state.state);
     state.state.step(Profile::Three, insn)
-}
-
-/// The states after a comparison that holds, and after one that doesn't.
-pub fn branch(
-    state: &TrackedState,
-    alloc: Global,
-    width: Width,
-    comparison: Comparison,
-    left: Register,
-    right: &Operand,
-) -> Result<TrackedEdges, Stop>
-    ensures rule { AnswersTrackedBranch (plain.branched width comparison left right.now (tracked_of state.now)) result }
-    ensures taken { IfOk result (λ edges. EdgeInLoop state.now width comparison left right.now true edges.taken) }
-    ensures untaken { IfOk result (λ edges. EdgeInLoop state.now width comparison left right.now false edges.untaken) }
-{
-    state.branch(alloc, width, comparison, left, right)
 }

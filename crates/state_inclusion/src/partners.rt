@@ -83,7 +83,7 @@ fn number_at(state: &AbsState, place: usize) -> Option<u64>
     known.only()
 }
 
-fn holder_at(state: &TrackedState, place: usize) -> Holder
+pub fn holder_at(state: &TrackedState, place: usize) -> Holder
     requires { place < 75 }
     ensures { result ≡ rules.holder_at (tracked_of state.now) place }
 {
