@@ -128,7 +128,8 @@ inductive_by profile rules sound program labels bound by = record {
     whole = by.begins.whole;
     holds = λ bytes span. record {
       here = sym by.begins.at_start;
-      contained = sound.widens rules.entry by.begins.first.known by.begins.widens bytes start (sound.entry bytes span);
+      contained = sound.widens by.begins.entry by.begins.first.known by.begins.widens bytes start
+          (sound.entry by.begins.entry by.begins.starts bytes span);
     };
   };
   kept = kept_by profile rules sound program labels by.kept;

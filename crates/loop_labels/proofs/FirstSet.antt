@@ -6,7 +6,7 @@ use Rattle.span_context.specs.Context.{SpanBytes}
 use Rattle.span_context.specs.declared.profile.Profile.{Profile}
 use Rattle.bpf_words.specs.declared.instruction.Insn.{Insn}
 use Rattle.bpf_words.specs.declared.instruction.Insn.TheVariants.{Compute, Negate, Extend, Convert, Jump, JumpLong, Branch, Load, LoadSigned, Store, LoadWide, Exit}
-use Rattle.semantics.specs.State.{State, set_value}
+use Rattle.semantics.specs.State.{State, set_value, start}
 use Rattle.semantics.specs.Step.{Returns, then_with, perform}
 use Rattle.loop_labels.specs.Potential.{all_weighed}
 use Rattle.loop_labels.specs.Labels.{Label}
@@ -67,7 +67,8 @@ widens false true less bytes state contained = let clash : false ≡ true = less
 
 pub first_sound : (profile : Profile) → AreSound profile first_rules
 first_sound profile = record {
-  entry = λ bytes span. record { first = None; rest = _; is = refl };
+  entry = λ known is bytes span.
+      subst (λ k. is_first_set k bytes start) (sym is) (record { first = None; rest = _; is = refl });
   anywhere = anywhere;
   edges = λ slot insn known edges e bytes state span contained. lands slot insn known edges e bytes state contained;
   widens = widens;
@@ -136,6 +137,8 @@ first_inductive = record {
     found = refl;
     at_start = refl;
     whole = refl;
+    entry = false;
+    starts = refl;
     widens = λ e. e;
   };
   kept = λ label among. kept_at among.place label among.found;

@@ -44,8 +44,8 @@ first_edges slot Exit false = None
 abbrev pub first_rules : Rules Bool
 first_rules = record {
   contains = is_first_set;
-  entry = false;
-  edges = first_edges;
+  entry = λ known. known ≡ false;
+  edges = λ slot insn known edges. first_edges slot insn known ≡ Some edges;
   widens = λ known wider. wider ≡ true → known ≡ true;
   is_positive = λ known p. (bytes : SpanBytes) (state : State) → pos 1 ≤ℤ potential_at bytes state p;
   falls = λ known insn behind p q. (bytes : SpanBytes) (state next : State)

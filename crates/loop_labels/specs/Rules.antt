@@ -19,10 +19,10 @@ pub record Edges (Known : Type 0) : Type 0 where
 
 pub record Rules (Known : Type 0) : Type 1 where
   pub contains : Containing Known
-  -- what is known at each start
-  pub entry : Known
-  -- the edges of an instruction at a slot; none where it is refused
-  pub edges : ℕ → Insn → Known → Option (Edges Known)
+  -- what may be known at each start
+  pub entry : Known → Type 0
+  -- what may be known on the edges of an instruction at a slot; nothing where it is refused
+  pub edges : ℕ → Insn → Known → Edges Known → Type 0
   -- the second says no more than the first
   pub widens : Known → Known → Type 0
   -- the potential is at least 1
@@ -44,12 +44,13 @@ Lands contains bytes insn edges (Ok (Returns value)) = Unit {0}
 Lands contains bytes insn edges (Err kind) = ⊥
 
 pub record AreSound (profile : Profile) {Known : Type 0} (rules : Rules Known) : Type 0 where
-  pub entry : (bytes : SpanBytes) → IsSpanIn profile bytes → rules.contains rules.entry bytes start
+  pub entry : (known : Known) → rules.entry known → (bytes : SpanBytes) → IsSpanIn profile bytes
+      → rules.contains known bytes start
   -- what is known doesn't speak of the slot
   pub anywhere : (known : Known) (bytes : SpanBytes) (state : State) (slot : ℕ) → rules.contains known bytes state
       → rules.contains known bytes (record state { slot = slot })
   pub edges : (slot : ℕ) (insn : Insn) (known : Known) (edges : Edges Known)
-      → rules.edges slot insn known ≡ Some edges → (bytes : SpanBytes) (state : State) → IsSpanIn profile bytes
+      → rules.edges slot insn known edges → (bytes : SpanBytes) (state : State) → IsSpanIn profile bytes
       → rules.contains known bytes state → Lands rules.contains bytes insn edges (perform bytes state insn)
   pub widens : (known wider : Known) → rules.widens known wider → (bytes : SpanBytes) (state : State)
       → rules.contains known bytes state → rules.contains wider bytes state
@@ -88,7 +89,7 @@ pub record IsKeptBy {Known : Type 0} (rules : Rules Known) (program : Program) (
   pub insn : Insn
   pub starts : StartsAt program label.slot insn
   pub edges : Edges Known
-  pub granted : rules.edges label.slot insn label.known ≡ Some edges
+  pub granted : rules.edges label.slot insn label.known edges
   pub taken : JumpLeads rules labels label insn (jump_of insn) edges.taken
   pub untaken : Leads rules labels label insn (pos (label.slot + slots_of insn)) edges.untaken
   pub positive : rules.is_positive label.known label.potential
@@ -99,7 +100,9 @@ pub record BeginsBy {Known : Type 0} (rules : Rules Known) (labels : List (Label
   pub found : slice_get labels 0 ≡ Some first
   pub at_start : first.slot ≡ 0
   pub whole : first.potential ≡ potential_of bound
-  pub widens : rules.widens rules.entry first.known
+  pub entry : Known
+  pub starts : rules.entry entry
+  pub widens : rules.widens entry first.known
 
 pub record AreInductiveBy {Known : Type 0} (rules : Rules Known) (program : Program) (labels : List (Label Known))
     (bound : Bound) : Type 0 where

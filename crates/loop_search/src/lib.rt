@@ -6,7 +6,5 @@ mod classes;
 mod join;
 pub mod states;
 mod tails;
-#[cfg(test)]
-mod tests;
 mod thresholds;
 mod widening;

@@ -8,4 +8,4 @@ mod rest;
 #[cfg(test)]
 mod rows;
 mod same;
-mod source;
+pub mod source;

@@ -174,7 +174,7 @@ fn written(state: &AbsState, insn: &Insn) -> Option<Source>
 }
 
 /// What a holder holds behind an instruction, where it is what a holder held before it, or a constant more.
-pub(crate) fn source_of(state: &AbsState, insn: &Insn, holder: Holder) -> Option<Source>
+pub fn source_of(state: &AbsState, insn: &Insn, holder: Holder) -> Option<Source>
     ensures { result ≡ rules.source_in state.now insn.now holder }
 {
     match holder {

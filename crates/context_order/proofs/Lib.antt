@@ -1,0 +1,3 @@
+pub mod OneTwo
+pub mod Walks
+pub mod Orders

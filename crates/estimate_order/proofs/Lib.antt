@@ -1,0 +1,13 @@
+pub mod BitOrder
+pub mod Normal
+pub mod Bitwise
+pub mod Numbers
+pub mod Cut
+pub mod Inside
+pub mod Sums
+pub mod Added
+pub mod Shifts
+pub mod Table
+pub mod Told
+pub mod Results
+pub mod Settled

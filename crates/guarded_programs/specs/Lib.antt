@@ -1,0 +1,4 @@
+pub mod Gives
+pub mod Allows
+pub mod Outlines
+pub mod Sample

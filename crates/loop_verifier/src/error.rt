@@ -1,0 +1,48 @@
+//! Why a program that loops isn't accepted.
+
+use abstract_state::refusal::Refusal;
+use loop_check::refusal::CheckError;
+use loop_search::states::SearchError;
+use std::alloc::AllocError;
+
+/// Why a program that loops isn't accepted.
+#[derive(Clone, Copy)]
+pub enum LoopError {
+    /// What is known before the slot refuses its instruction.
+    Refused { slot: usize, fault: Refusal },
+    /// The instruction leads out of the program, or writes r10.
+    Leaves { slot: usize },
+    /// No measure of a loop was found, or it doesn't fall on an edge from the slot.
+    Unbounded { slot: usize },
+    /// By the bound a run may take too many steps.
+    TooManySteps,
+    /// The search visited too many slots.
+    SearchLimit,
+    OutOfMemory,
+}
+
+impl From<AllocError> for LoopError {
+    fn from(_e: AllocError) -> LoopError {
+        LoopError::OutOfMemory
+    }
+}
+
+impl From<SearchError> for LoopError {
+    fn from(error: SearchError) -> LoopError {
+        match error {
+            SearchError::Refused { slot, fault } => LoopError::Refused { slot, fault },
+            SearchError::Leaves { slot } => LoopError::Leaves { slot },
+            SearchError::Limit => LoopError::SearchLimit,
+            SearchError::OutOfMemory => LoopError::OutOfMemory,
+        }
+    }
+}
+
+impl From<CheckError> for LoopError {
+    fn from(error: CheckError) -> LoopError {
+        match error {
+            CheckError::Label { slot, .. } => LoopError::Unbounded { slot },
+            CheckError::OutOfMemory => LoopError::OutOfMemory,
+        }
+    }
+}

@@ -1,0 +1,119 @@
+//! Programs that loop.
+
+use crate::error::LoopError;
+use crate::verify::verify_loops;
+use bpf_words::words::Words;
+use loop_check::label::Bound;
+use std::test::Fail;
+
+/// `r2 = text; r3 = end; r0 = 0`, and then as long as r2 isn't the end: `r0 = *(u8 *)r2; r2 += 1`.
+const ADDRESSES: [u8; 64] = [
+    0x79, 0x12, 0, 0, 0, 0, 0, 0, // r2 = *(u64 *)(r1 + 0)
+    0x79, 0x13, 8, 0, 0, 0, 0, 0, // r3 = *(u64 *)(r1 + 8)
+    0xb7, 0, 0, 0, 0, 0, 0, 0, // r0 = 0
+    0x1d, 0x32, 3, 0, 0, 0, 0, 0, // if r2 == r3 goto +3
+    0x71, 0x20, 0, 0, 0, 0, 0, 0, // r0 = *(u8 *)(r2 + 0)
+    0x07, 0x02, 0, 0, 1, 0, 0, 0, // r2 += 1
+    0x05, 0, 0xfc, 0xff, 0, 0, 0, 0, // goto -4
+    0x95, 0, 0, 0, 0, 0, 0, 0, // exit
+];
+
+/// `r2 = 0; r4 = length; r0 = 0`, and then as long as r2 is less: `r5 = text + r2; r0 = *(u8 *)r5; r2 += 1`.
+const INDEX: [u8; 80] = [
+    0xb7, 0x02, 0, 0, 0, 0, 0, 0, // r2 = 0
+    0x61, 0x14, 16, 0, 0, 0, 0, 0, // r4 = *(u32 *)(r1 + 16)
+    0xb7, 0, 0, 0, 0, 0, 0, 0, // r0 = 0
+    0x3d, 0x42, 5, 0, 0, 0, 0, 0, // if r2 >= r4 goto +5
+    0x79, 0x15, 0, 0, 0, 0, 0, 0, // r5 = *(u64 *)(r1 + 0)
+    0x0f, 0x25, 0, 0, 0, 0, 0, 0, // r5 += r2
+    0x71, 0x50, 0, 0, 0, 0, 0, 0, // r0 = *(u8 *)(r5 + 0)
+    0x07, 0x02, 0, 0, 1, 0, 0, 0, // r2 += 1
+    0x05, 0, 0xfa, 0xff, 0, 0, 0, 0, // goto -6
+    0x95, 0, 0, 0, 0, 0, 0, 0, // exit
+];
+
+/// `r0 = 0; goto -1`
+const FOR_EVER: [u8; 24] = [
+    0xb7, 0, 0, 0, 0, 0, 0, 0, // r0 = 0
+    0x05, 0, 0xff, 0xff, 0, 0, 0, 0, // goto -1
+    0x95, 0, 0, 0, 0, 0, 0, 0, // exit
+];
+
+fn with(code: &[u8; 64], place: usize, value: u8) -> [u8; 64] {
+    let mut changed = *code;
+    if place < 64 {
+        changed[place] = value;
+    }
+    changed
+}
+
+fn refused_at(verified: &Result<Bound, LoopError>) -> Option<usize> {
+    match verified {
+        Err(LoopError::Refused { slot, .. }) => Some(*slot),
+        _ => None,
+    }
+}
+
+/// The bound as three numbers.
+fn numbers(verified: &Result<Bound, LoopError>) -> Option<(u64, u32, u32)> {
+    match verified {
+        Ok(bound) => Some((bound.constant, bound.per_byte, bound.per_link_byte)),
+        Err(_) => None,
+    }
+}
+
+#[test]
+fn a_scan_of_the_text_is_accepted(rt: HostRuntime) -> Result<(), Fail> {
+    let words = Words::new(&ADDRESSES)?;
+    let found = numbers(&verify_loops(rt.alloc(), &words));
+    let Some((constant, per_byte, per_link_byte)) = found else {
+        assert!(rt; false, "refused");
+        return Ok(());
+    };
+    // of n bytes a run takes 5 + 4 * n steps, so that no bound is less, and one that is a turn more is loose
+    assert_eq!(rt; (per_byte, per_link_byte), (4, 0));
+    assert!(rt; constant >= 5 && constant <= 9);
+    Ok(())
+}
+
+#[test]
+fn a_loop_without_end_is_refused(rt: HostRuntime) -> Result<(), Fail> {
+    let words = Words::new(&FOR_EVER)?;
+    assert_eq!(rt; numbers(&verify_loops(rt.alloc(), &words)), None);
+    Ok(())
+}
+
+#[test]
+fn an_index_is_accepted(rt: HostRuntime) -> Result<(), Fail> {
+    let words = Words::new(&INDEX)?;
+    let found = numbers(&verify_loops(rt.alloc(), &words));
+    let Some((constant, per_byte, per_link_byte)) = found else {
+        assert!(rt; false, "refused");
+        return Ok(());
+    };
+    // of n bytes a run takes 5 + 6 * n steps
+    assert_eq!(rt; (per_byte, per_link_byte), (6, 0));
+    assert!(rt; constant >= 5 && constant <= 11);
+    Ok(())
+}
+
+#[test]
+fn a_load_behind_the_end_is_refused(rt: HostRuntime) -> Result<(), Fail> {
+    // r0 = *(u8 *)(r2 + 1)
+    let behind = with(&ADDRESSES, 34, 1);
+    // r2 += 2, which may go past the end
+    let double = with(&ADDRESSES, 44, 2);
+    let first = Words::new(&behind)?;
+    let second = Words::new(&double)?;
+    assert_eq!(rt;
+        refused_at(&verify_loops(rt.alloc(), &first)),
+        Some(4),
+        "one byte too far"
+    );
+    assert_eq!(rt;
+        refused_at(&verify_loops(rt.alloc(), &second)),
+        Some(4),
+        "two bytes a turn"
+    );
+    Ok(())
+}
