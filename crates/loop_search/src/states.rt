@@ -125,6 +125,108 @@ fn may_step(insn: &Insn) -> bool
     }
 }
 
+/// What is known where an instruction leads; the slot is none where that lies before the program.
+#[derive(Drop)]
+struct Edge {
+    to: Option<usize>,
+    state: Box<TrackedState>,
+}
+
+/// By the jump, and to the next instruction; none where no run goes.
+#[derive(Drop)]
+struct Edges {
+    taken: Option<Edge>,
+    untaken: Option<Edge>,
+}
+
+fn edge_to(
+    alloc: Global,
+    to: Option<usize>,
+    state: Option<TrackedState>,
+) -> Result<Option<Edge>, AllocError> {
+    let Some(state) = state else {
+        return Ok(None);
+    };
+    let state = Box::new(alloc, state)?;
+    Ok(Some(Edge { to, state }))
+}
+
+fn compared(
+    alloc: Global,
+    slot: usize,
+    insn: &Insn,
+    state: &TrackedState,
+) -> Result<Edges, SearchError> {
+    let Insn::Branch {
+        width,
+        comparison,
+        left,
+        right,
+        distance,
+    } = *insn
+    else {
+        return Err(SearchError::Leaves { slot });
+    };
+    let TrackedEdges { taken, untaken } = branch(
+        state, alloc, width, comparison, left, &right,
+    ).map_err(|stop| error_at(slot, stop))?;
+    let taken = edge_to(alloc, target(slot, i32::from(distance)), taken)?;
+    let untaken = edge_to(alloc, slot.checked_add(1), untaken)?;
+    Ok(Edges { taken, untaken })
+}
+
+fn stepped(
+    alloc: Global,
+    slot: usize,
+    insn: &Insn,
+    state: &TrackedState,
+) -> Result<Edges, SearchError> {
+    if slot >= MOST_SLOTS || !may_step(insn) {
+        return Err(SearchError::Leaves { slot });
+    }
+    let mut next = state.copy(alloc)?;
+    let next = match step(&mut next, slot, insn) {
+        Ok(Flow::Live) => Some(next),
+        Ok(Flow::Dead) => None,
+        Err(fault) => return Err(SearchError::Refused { slot, fault }),
+    };
+    let untaken = edge_to(alloc, slot.checked_add(insn.slots()), next)?;
+    Ok(Edges {
+        taken: None,
+        untaken,
+    })
+}
+
+/// What is known behind an instruction, by what is known before it.
+fn edges_from(
+    alloc: Global,
+    slot: usize,
+    insn: &Insn,
+    state: &TrackedState,
+) -> Result<Edges, SearchError> {
+    match *insn {
+        Insn::Branch { .. } => return compared(alloc, slot, insn, state),
+        Insn::Exit => {
+            state
+                .exit()
+                .map_err(|fault| SearchError::Refused { slot, fault })?;
+            return Ok(Edges {
+                taken: None,
+                untaken: None,
+            });
+        }
+        _ => {}
+    }
+    let Some(distance) = insn.distance() else {
+        return stepped(alloc, slot, insn, state);
+    };
+    let taken = edge_to(alloc, target(slot, distance), Some(state.copy(alloc)?))?;
+    Ok(Edges {
+        taken,
+        untaken: None,
+    })
+}
+
 impl Search {
     /// What an edge leads to a head of a loop.
     fn meet(&mut self, slot: usize, state: Box<TrackedState>) -> Result<(), SearchError> {
@@ -181,65 +283,11 @@ impl Search {
         Ok(())
     }
 
-    fn compare(
-        &mut self,
-        slot: usize,
-        insn: &Insn,
-        state: &TrackedState,
-    ) -> Result<(), SearchError> {
-        let Insn::Branch {
-            width,
-            comparison,
-            left,
-            right,
-            distance,
-        } = *insn
-        else {
-            return Ok(());
-        };
-        let TrackedEdges { taken, untaken } = branch(
-            state, self.alloc, width, comparison, left, &right,
-        ).map_err(|stop| error_at(slot, stop))?;
-        if let Some(taken) = taken {
-            self.arrive(
-                slot,
-                target(slot, i32::from(distance)),
-                Box::new(self.alloc, taken)?,
-            )?;
-        }
-        if let Some(untaken) = untaken {
-            self.arrive(
-                slot,
-                Some(slot.saturating_add(1)),
-                Box::new(self.alloc, untaken)?,
-            )?;
-        }
-        Ok(())
-    }
-
-    /// Takes what is known before an instruction to what its edges lead to.
-    fn visit(&mut self, slot: usize, insn: &Insn, state: &TrackedState) -> Result<(), SearchError> {
-        match *insn {
-            Insn::Branch { .. } => return self.compare(slot, insn, state),
-            Insn::Exit => {
-                state
-                    .exit()
-                    .map_err(|fault| SearchError::Refused { slot, fault })?;
-                return Ok(());
-            }
-            _ => {}
-        }
-        let mut next = Box::new(self.alloc, state.copy(self.alloc)?)?;
-        if let Some(distance) = insn.distance() {
-            return self.arrive(slot, target(slot, distance), next);
-        }
-        if slot >= MOST_SLOTS || !may_step(insn) {
-            return Err(SearchError::Leaves { slot });
-        }
-        match step(&mut next, slot, insn) {
-            Ok(Flow::Live) => self.arrive(slot, Some(slot.saturating_add(insn.slots())), next),
-            Ok(Flow::Dead) => Ok(()),
-            Err(fault) => Err(SearchError::Refused { slot, fault }),
+    /// Takes what is known behind an instruction to the slots of its edges.
+    fn follow(&mut self, from: usize, edge: Option<Edge>) -> Result<(), SearchError> {
+        match edge {
+            Some(edge) => self.arrive(from, edge.to, edge.state),
+            None => Ok(()),
         }
     }
 
@@ -267,9 +315,12 @@ impl Search {
             return Err(SearchError::Limit);
         }
         self.visits += 1;
-        let visited = self.visit(slot, insn, &state);
+        // the state is back before its edges arrive, which may lead here
+        let edges = edges_from(self.alloc, slot, insn, &state);
         self.put_back(slot, state);
-        visited
+        let Edges { taken, untaken } = edges?;
+        self.follow(slot, taken)?;
+        self.follow(slot, untaken)
     }
 }
 

@@ -1,7 +1,7 @@
 //! Why a program that loops isn't accepted.
 
 use abstract_state::refusal::Refusal;
-use loop_check::refusal::CheckError;
+use loop_check::refusal::{CheckError, LabelFault};
 use loop_search::states::SearchError;
 use std::alloc::AllocError;
 
@@ -12,8 +12,10 @@ pub enum LoopError {
     Refused { slot: usize, fault: Refusal },
     /// The instruction leads out of the program, or writes r10.
     Leaves { slot: usize },
-    /// No measure of a loop was found, or it doesn't fall on an edge from the slot.
-    Unbounded { slot: usize },
+    /// No measure of a loop was found.
+    NoMeasure,
+    /// The check refuses what the search found for the slot.
+    Unchecked { slot: usize, fault: LabelFault },
     /// By the bound a run may take too many steps.
     TooManySteps,
     /// The search visited too many slots.
@@ -41,7 +43,7 @@ impl From<SearchError> for LoopError {
 impl From<CheckError> for LoopError {
     fn from(error: CheckError) -> LoopError {
         match error {
-            CheckError::Label { slot, .. } => LoopError::Unbounded { slot },
+            CheckError::Label { slot, fault } => LoopError::Unchecked { slot, fault },
             CheckError::OutOfMemory => LoopError::OutOfMemory,
         }
     }

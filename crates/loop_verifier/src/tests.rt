@@ -76,10 +76,60 @@ fn a_scan_of_the_text_is_accepted(rt: HostRuntime) -> Result<(), Fail> {
     Ok(())
 }
 
+fn has_no_measure(verified: &Result<Bound, LoopError>) -> bool {
+    match verified {
+        Err(LoopError::NoMeasure) => true,
+        _ => false,
+    }
+}
+
+fn takes_too_many_steps(verified: &Result<Bound, LoopError>) -> bool {
+    match verified {
+        Err(LoopError::TooManySteps) => true,
+        _ => false,
+    }
+}
+
 #[test]
 fn a_loop_without_end_is_refused(rt: HostRuntime) -> Result<(), Fail> {
     let words = Words::new(&FOR_EVER)?;
-    assert_eq!(rt; numbers(&verify_loops(rt.alloc(), &words)), None);
+    assert!(rt; has_no_measure(&verify_loops(rt.alloc(), &words)));
+    Ok(())
+}
+
+/// `r2 = 0`, `r2 += 1` until r2 isn't less than the limit, `r0 = 0`.
+fn counting_to(limit: [u8; 4]) -> [u8; 40] {
+    let mut code = [
+        0xb7, 0x02, 0, 0, 0, 0, 0, 0, // r2 = 0
+        0x07, 0x02, 0, 0, 1, 0, 0, 0, // r2 += 1
+        0xa5, 0x02, 0xfe, 0xff, 0, 0, 0, 0, // if r2 < limit goto -2
+        0xb7, 0, 0, 0, 0, 0, 0, 0, // r0 = 0
+        0x95, 0, 0, 0, 0, 0, 0, 0, // exit
+    ];
+    for (place, digit) in limit.iter().enumerate() {
+        if place < 4 {
+            code[20 + place] = *digit;
+        }
+    }
+    code
+}
+
+#[test]
+fn a_count_is_accepted_within_the_limit_of_steps(rt: HostRuntime) -> Result<(), Fail> {
+    // to 1,000,000, and to 2^31 - 1
+    let short = counting_to([0x40, 0x42, 0x0f, 0]);
+    let long = counting_to([0xff, 0xff, 0xff, 0x7f]);
+    let first = Words::new(&short)?;
+    let second = Words::new(&long)?;
+    let Some((constant, per_byte, per_link_byte)) = numbers(&verify_loops(rt.alloc(), &first))
+    else {
+        assert!(rt; false, "refused");
+        return Ok(());
+    };
+    // a run takes 2,000,003 steps
+    assert_eq!(rt; (per_byte, per_link_byte), (0, 0));
+    assert!(rt; constant >= 2_000_003 && constant <= 8_000_012);
+    assert!(rt; takes_too_many_steps(&verify_loops(rt.alloc(), &second)));
     Ok(())
 }
 

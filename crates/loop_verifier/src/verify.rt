@@ -88,13 +88,13 @@ fn verify_at(alloc: Global, words: &Words<'_>, fine: u8) -> Result<Bound, LoopEr
 {
     let states = find_states(alloc, words, fine)?;
     let Some(potentials) = find_potentials(alloc, words, &states)? else {
-        return Err(LoopError::Unbounded { slot: 0 });
+        return Err(LoopError::NoMeasure);
     };
     let Some(first) = potential_at(&potentials, 0) else {
-        return Err(LoopError::Unbounded { slot: 0 });
+        return Err(LoopError::NoMeasure);
     };
     let Some(bound) = bound_at(&first) else {
-        return Err(LoopError::Unbounded { slot: 0 });
+        return Err(LoopError::NoMeasure);
     };
     if !is_within_limit(&bound) {
         return Err(LoopError::TooManySteps);
