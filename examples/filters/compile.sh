@@ -5,7 +5,7 @@
 #
 # COMPILER is the compiler: clang, or where that isn't there gcc for BPF (bpf-gcc, bpf-unknown-none-gcc). OBJCOPY and OBJDUMP are
 # the tools, MCPU is the instruction set, CFLAGS has further options. Where the compiler laid out a jump back, HUB (hub) lays the
-# blocks out again, unless it is empty: `hub straighten`. A program with a loop stays as it is.
+# blocks out again, unless it is empty: `hub straighten`. A program with a loop stays as it is; context 4 takes it.
 set -eu
 if [ $# -ne 1 ] || [ "$1" = --help ]; then
     sed -n '2,8s/^# \{0,1\}//p' "$0" >&2
@@ -29,7 +29,9 @@ case $(basename "$compiler") in
 *gcc*)
     # Beside `bpf-gcc` stands `bpf-objdump`.
     tools=${compiler%gcc*}
-    target=
+    # Loops stay as they are written, but where the source asks for unrolled ones: gcc would unroll each by four.
+    target=-fno-unroll-loops
+    if grep -q '^ *UNROLL' "$source"; then target=; fi
     ;;
 *)
     tools=llvm-

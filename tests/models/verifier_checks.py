@@ -1,7 +1,8 @@
 #!/usr/bin/env python3
 """Checks by the model of the verifier, whose rules are in verifier.py, and of what is printed of it, which is in explained.py.
 
-    verifier_checks.py                      compares with what the cases `check-..` and `explain-..` of crates/test_cases must print
+    verifier_checks.py                      compares with what the cases `check-..` and `explain-..` of crates/test_cases must print,
+                                            but for those of programs that loop, in context 4
     verifier_checks.py random COUNT SEED    tests that random programs which the first profile accepts are accepted by the second
     verifier_checks.py third COUNT SEED     tests that those which the second accepts are accepted by the third, and that those
                                             which the third alone accepts run without a fault, with the machine as is known
@@ -22,7 +23,7 @@ from pathlib import Path
 
 from explained import answer
 from lent_runs import first_wrong
-from machine import fields
+from machine import fields, refusal
 from random_programs import FRONT, random_program, third_program
 from verifier import PROFILES, Walk, distance_of, starts
 
@@ -68,19 +69,37 @@ def printed_lines():
     return printed
 
 
+def has_jump_back(data):
+    """Whether the bytes are a program with a jump back."""
+    return refusal(data) is None and any((distance_of(fields(data, at)) or 0) < 0 for at in starts(data))
+
+
+def answer_in_context_4(data, detail):
+    """What the hub prints in context 4 of a program without a jump back, which is judged there as in context 3, or of bytes that
+    are no program. None of a program with a jump back: the rules of programs that loop aren't in this model, and loops.py tests
+    what the hub accepts of them."""
+    if has_jump_back(data):
+        return None
+    status, lines = answer(data, PROFILES[3], detail)
+    if status == 0:
+        lines[0] += f", steps <= {len(data) // 8} + 0 * length + 0 * link length"
+    return status, lines
+
+
 def answer_to(words, given):
-    """What the hub prints at these words and this input, with its exit status."""
+    """What the hub prints at these words and this input, with its exit status; None where the model doesn't know it."""
     line = " ".join(words)
     is_once = all(line.count(option) <= 1 for option in ("--explain", "--context"))
-    if not is_once or not re.fullmatch(r"check( --explain(=slot|=all)?| --context[ =][123])*", line):
+    if not is_once or not re.fullmatch(r"check( --explain(=slot|=all)?| --context[ =][1234])*", line):
         return 2, []
     digits = re.sub(r"[ \t\r\n]", "", given)
     if not re.fullmatch(r"([0-9a-fA-F]{2})*", digits):
         return 1, ["refused 63 BadHex"]
-    detail = re.search("--explain(=all)?", line)
-    profile = re.search("--context.([123])", line)
-    return answer(bytes.fromhex(digits), PROFILES[int(profile.group(1)) if profile else 1],
-                  detail and ("all" if detail.group(1) else "slot"))
+    option = re.search("--explain(=all)?", line)
+    detail = option and ("all" if option.group(1) else "slot")
+    context = re.search("--context.([1234])", line)
+    number, data = int(context.group(1)) if context else 1, bytes.fromhex(digits)
+    return answer_in_context_4(data, detail) if number == 4 else answer(data, PROFILES[number], detail)
 
 
 def modelled(lines):
@@ -89,18 +108,21 @@ def modelled(lines):
 
 
 def compare():
-    """Compares with each case, of an accepted program without the lines of what it can do."""
-    printed, total, differing = printed_lines(), 0, []
+    """Compares with each case whose answer the model knows, of an accepted program without the lines of what it can do."""
+    printed, total, left_out, differing = printed_lines(), 0, 0, []
     for block in (CASES / "stdin").read_text(encoding="utf-8").split("\n\n"):
         name, words, given = parsed_case(block)
         if not name.startswith(("check-", "explain-")):
             continue
-        status, lines = printed[name]
+        known, (status, lines) = answer_to(words, given), printed[name]
+        if known is None:
+            left_out += 1
+            continue
         total += 1
-        if answer_to(words, given) != (status, modelled(lines)):
+        if known != (status, modelled(lines)):
             differing.append(name)
             print(f"{name}: not as the model says")
-    print(f"{total - len(differing)} of {total} cases agree")
+    print(f"{total - len(differing)} of {total} cases agree; {left_out} of programs that loop left out")
     return not differing
 
 

@@ -7,6 +7,6 @@ mod loops;
 pub mod refusal;
 mod spread;
 pub mod straighten;
-mod structure;
+pub mod structure;
 mod walk;
 mod ways;

@@ -13,9 +13,9 @@ use bpf_words::words::Words;
 
 /// The first slot at fault, and what is wrong there.
 #[derive(Clone, Copy)]
-pub(crate) struct Misplaced {
-    pub(crate) slot: usize,
-    pub(crate) fault: WayFault,
+pub struct Misplaced {
+    pub slot: usize,
+    pub fault: WayFault,
 }
 
 /// Looks at where an instruction jumps, if it does.
@@ -55,7 +55,7 @@ fn check_insn(words: &Words<'_>, slot: usize, insn: &Insn) -> Result<(), WayFaul
 }
 
 /// Looks at each instruction in order.
-pub(crate) fn check(words: &Words<'_>) -> Result<(), Misplaced>
+pub fn check(words: &Words<'_>) -> Result<(), Misplaced>
     ensures { MatchResult result (λ _. IsConnected (program_of words.now))
         (λ wrong. FirstFault (program_of words.now) wrong.slot wrong.fault) }
 {
@@ -70,7 +70,7 @@ pub(crate) fn check(words: &Words<'_>) -> Result<(), Misplaced>
 }
 
 /// The slot of the first jump back.
-pub(crate) fn first_back(words: &Words<'_>) -> Option<usize>
+pub fn first_back(words: &Words<'_>) -> Option<usize>
     ensures { MatchOption result (IsForward (program_of words.now)) (λ slot. FirstBack (program_of words.now) slot) }
 {
     for slot in 0..words.len() {

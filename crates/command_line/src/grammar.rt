@@ -258,11 +258,24 @@ the register or the bytes of the stack that it wrote, and the number that they h
         .value_parser(value_parser!(u64).range(0..))
         .default_value("0")
         .help("The version's number, of 64 bits; the numbers above have 32");
+    let context = Arg::new(alloc, "context")
+        .long("context")
+        .value_name("NUMBER")
+        .action(ArgAction::Set)
+        .value_parser(value_parser!(u32).range(1..=4))
+        .default_value("1")
+        .help(
+            "4: the run may take as many steps as one of a program that loops; else as many as the program has slots",
+        );
     let trace = Arg::new(alloc, "trace")
         .long("trace")
         .action(ArgAction::SetTrue)
         .help("Also prints each step first, and what it wrote (docs/PROGRAMS.md)");
-    run.arg(link)?.arg(link_text)?.arg(version)?.arg(trace)
+    run.arg(link)?
+        .arg(link_text)?
+        .arg(version)?
+        .arg(context)?
+        .arg(trace)
 }
 
 fn asm<'a>(alloc: Global) -> Command<'a> {
@@ -292,10 +305,10 @@ fn check<'a>(alloc: Global) -> Result<Command<'a>, AllocError> {
         .long("context")
         .value_name("NUMBER")
         .action(ArgAction::Set)
-        .value_parser(value_parser!(u32).range(1..=3))
+        .value_parser(value_parser!(u32).range(1..=4))
         .default_value("1")
         .help(
-            "1: the program may read the first 56 bytes of the context, and the text; 2: also the link; 3: the same as 2, and more programs are accepted",
+            "1: the program may read the first 56 bytes of the context, and the text; 2: also the link; 3: the same as 2, and more programs are accepted; 4: the same as 3, and programs may loop",
         );
     Command::new(alloc, "check")
         .about("Says whether a program is accepted")
@@ -304,6 +317,8 @@ fn check<'a>(alloc: Global) -> Result<Command<'a>, AllocError> {
 ends with a number and without a fault. Standard input is the program's bytes, as
 pairs of hexadecimal digits of either case; spaces, tabs and line breaks are
 skipped. Printed is `accepted <slots>`, or the refusal of the first slot at fault.
+With --context 4 a bound of the steps follows: `, steps <= 9 + 4 * length + 0 *
+link length`.
 
 With --explain more lines follow. Of an accepted program: the greatest number of
 steps, the fields of the context that it can read, and the bytes of the text and

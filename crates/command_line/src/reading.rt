@@ -3,9 +3,10 @@ use change_ops::attribute::Link;
 use change_ops::size::Size;
 use clap::error::ErrorKind;
 use clap::{ArgMatches, Error};
+use filters::rules::RuleSet;
 use hub_requests::limits::{SessionLimits, SessionOptions};
 use hub_requests::serving::{Doors, Service, StoreFile, Terms, WebDoor};
-use hub_requests::{Command, Detail, Request, Sessions, Shown, SpanOptions, Workers};
+use hub_requests::{Command, Detail, Request, RunLimit, Sessions, Shown, SpanOptions, Workers};
 use span_context::profile::Profile;
 use std::alloc::{AllocError, Global};
 use std::convert::AsStr;
@@ -86,6 +87,7 @@ fn link(alloc: Global, matches: &ArgMatches<'_>) -> Result<Option<Link>, Unread>
 
 fn span_options(alloc: Global, matches: &ArgMatches<'_>) -> Result<SpanOptions, Unread> {
     Ok(SpanOptions {
+        limit: run_limit(matches),
         flags: number(matches, "flags"),
         color: number(matches, "color"),
         link: link(alloc, matches)?,
@@ -96,12 +98,21 @@ fn span_options(alloc: Global, matches: &ArgMatches<'_>) -> Result<SpanOptions, 
     })
 }
 
-/// What the program that is checked may read, and by which rules it is, by the number of its context.
-fn profile(matches: &ArgMatches<'_>) -> Profile {
+/// By which rules the program is checked, by the number of its context.
+fn rules(matches: &ArgMatches<'_>) -> RuleSet {
     match number(matches, "context") {
-        2 => Profile::Two,
-        3 => Profile::Three,
-        _ => Profile::One,
+        2 => RuleSet::Straight(Profile::Two),
+        3 => RuleSet::Straight(Profile::Three),
+        4 => RuleSet::Looping,
+        _ => RuleSet::Straight(Profile::One),
+    }
+}
+
+/// How long the run may be, by the number of the program's context.
+fn run_limit(matches: &ArgMatches<'_>) -> RunLimit {
+    match number(matches, "context") {
+        4 => RunLimit::Longest,
+        _ => RunLimit::Slots,
     }
 }
 
@@ -326,7 +337,7 @@ fn request_of(alloc: Global, matches: &ArgMatches<'_>) -> Result<Request, Unread
         Some(("asm", _)) => Some(Request::Perform(Command::Asm)),
         Some(("check", check)) => Some(Request::Perform(Command::Check {
             detail: detail(check),
-            profile: profile(check),
+            rules: rules(check),
         })),
         Some(("dis", _)) => Some(Request::Perform(Command::Dis)),
         Some(("join", join)) => Some(Request::Perform(Command::Join { size: size(join) })),

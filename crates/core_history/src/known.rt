@@ -1,6 +1,6 @@
 //! What is known of values of a hub, whatever hub it is and when the values are gone. No value of these types is made.
+use filters::filter::Filter;
 use std::marker::Model;
-use verifier::verify::Verified;
 use version_pieces::version::PieceVersion;
 
 /// What is known of a token: its index, and the value that is there.
@@ -21,7 +21,7 @@ impl<T> Model for KnownToken<T> {
 }
 
 /// What is known of a program's token.
-pub type KnownProgram = KnownToken<Verified>;
+pub type KnownProgram = KnownToken<Filter>;
 
 /// What is known of a version's token.
 pub type KnownVersion = KnownToken<PieceVersion>;

@@ -5,21 +5,23 @@ use change_history::history::History;
 use change_ops::change::read_change;
 use change_ops::size::Size;
 use feeds::batch::verdict;
+use filters::accept::accept;
+use filters::filter::Filter;
+use filters::rules::RuleSet;
 use span_context::profile::Profile;
 use span_view::view::view;
 use std::alloc::Global;
-use verifier::verify::{Verified, verify};
 
 /// The program of these digits. Every run of what is accepted ends with a number, on every span.
-pub fn accepted(alloc: Global, digits: &str) -> Result<Verified> {
+pub fn accepted(alloc: Global, digits: &str) -> Result<Filter> {
     let bytes = hex::decode(alloc, digits)?;
     let words = Words::new(bytes.as_slice())?; // 1 to 9: the bytes are no program
-    let program = verify(alloc, &words, Profile::Two); // 10 to 27: the first slot at fault
+    let program = accept(alloc, &words, RuleSet::Straight(Profile::Two)); // 10 to 27: the first slot at fault
     program.ok().context("the program isn't accepted")
 }
 
 /// The verdict on each span of the text that the changes make. Whoever has the same changes finds the same.
-pub fn verdicts(alloc: Global, program: &Verified, changes: &[&str]) -> Result<Vec<u64>> {
+pub fn verdicts(alloc: Global, program: &Filter, changes: &[&str]) -> Result<Vec<u64>> {
     let mut history = History::new(alloc, Size::Small); // how much the text may hold: up to 32,768 characters
     for text in changes {
         let (change, _rest) = read_change(alloc, text)?; // 40 to 45: the first line at fault

@@ -9,6 +9,7 @@ use core_history::start::Start;
 use feeds::item::Finding;
 use filter_workers::gate::Open;
 use filter_workers::work::{Worker, work};
+use filters::filter::Filter;
 use ingest_workers::hub::Hub;
 use ingest_workers::ingest::ingest;
 use std::alloc::Global;
@@ -17,7 +18,6 @@ use std::sync::Wait;
 use std::sync::ledger::Ledger;
 use std::thread::Threads;
 use subscriber_queues::ends::queue;
-use verifier::verify::Verified;
 use version_history::published::{Naming, Published};
 use version_pieces::version::PieceVersion;
 
@@ -31,7 +31,7 @@ fn findings<
     hub: &Hub<'_, N, R>,
     published: &Published<'_, N>,
     workers: &mut [Worker<N>],
-    program: Verified,
+    program: Filter,
     changes: &[&str],
 ) -> Result<Vec<Finding>>
     requires { (1 ≤ length workers.old) × (length workers.old ≤ 16) }
@@ -61,7 +61,7 @@ fn findings<
 pub fn on_new_hub<R: Threads + Wait + Copy + Send + Sync>(
     rt: &R,
     alloc: Global,
-    program: Verified,
+    program: Filter,
     changes: &[&str],
 ) -> Result<Vec<Finding>> {
     let versions = boxcar::Vec::new(alloc)?;
@@ -78,8 +78,8 @@ fn on_lists<
     alloc: Global,
     start: Start,
     versions: &boxcar::Vec<PieceVersion>,
-    programs: &boxcar::Vec<Verified>,
-    program: Verified,
+    programs: &boxcar::Vec<Filter>,
+    program: Filter,
     changes: &[&str],
 ) -> Result<Vec<Finding>>
     requires named { (N.size ≡ Small) × (versions.now ≡ N.versions) × (programs.now ≡ N.programs) }

@@ -12,7 +12,8 @@ use Rattle.semantics.specs.Safe.{AreBytes, IsSpan}
 use Rattle.semantics.specs.Step.{Program}
 use Rattle.program_reads.specs.declared.reads.Reads.{Reads}
 use Rattle.program_reads.specs.Positions.{IsPositionless}
-use Rattle.program_reads.specs.Reads.{AgreesOn, Determines}
+use Rattle.program_reads.specs.Reads.{AgreesOn}
+use Rattle.filters.specs.Filters.{DeterminesRuns}
 use Rattle.program_reads.proofs.Positions.{beside_position}
 use Rattle.span_view.specs.Views.{SpanView}
 use Rattle.span_view.specs.ContextOf.{bytes_of, facts_of, link_of}
@@ -95,7 +96,7 @@ agree reads older newer positionless alike = record {
   link = λ k listed one other. rw alike.format.link refl;
 }
 
-pub blind_to_position : (reads : Reads) (program : Program) → IsPositionless reads → Determines reads Two program → IsBlindToPosition program
+pub blind_to_position : (reads : Reads) (program : Program) → IsPositionless reads → DeterminesRuns reads program → IsBlindToPosition program
 unfolding verdict_on
 blind_to_position reads program positionless determines = λ older newer alike.
     ap number_of (determines (bytes_of older) (bytes_of newer) alike.older_lent alike.newer_lent (agree reads older newer positionless alike))

@@ -5,8 +5,8 @@ use Rattle.std.proofs.lemmas.List.{length-map, map-append, append-nil, drop_all}
 use Rattle.std.proofs.lemmas.List.FromFn.{length-enumerate_from}
 use Rattle.span_context.specs.Context.{span_bytes}
 use Rattle.semantics.specs.Step.{Program}
-use Rattle.semantics.specs.Outcomes.{outcome}
-use Rattle.semantics.specs.Safe.{Verdict}
+use Rattle.semantics.specs.declared.Outcome.TheVariants.{Done}
+use Rattle.filters.specs.Filters.{whole_outcome}
 use Rattle.span_flatten.specs.Version.{Version}
 use Rattle.span_view.specs.Views.{SpanView, view_of, views}
 use Rattle.span_view.specs.ContextOf.{context_of, link_of}
@@ -16,10 +16,10 @@ use Rattle.feeds.specs.Batches.{Item, item_of, hits_from, items_of}
 use Rattle.feeds.specs.Verdicts.{number_of, verdict_on, verdicts_of}
 
 pub verdict_is : (program : Program) (span : SpanView) (context text link : List ℕ) (value : ℕ) → context ≡ context_of span → text ≡ span.text
-    → link ≡ link_of span → Verdict program (span_bytes context text link) value → value ≡ verdict_on program span
+    → link ≡ link_of span → whole_outcome program (span_bytes context text link) ≡ Done value → value ≡ verdict_on program span
 unfolding verdict_on
 verdict_is program span context text link value c t l v =
-    sym (ap number_of (ap (λ (x : List ℕ × List ℕ × List ℕ). outcome program (span_bytes x.0 x.1 x.2)) (λ i. (sym c i, sym t i, sym l i)) ∙ v))
+    sym (ap number_of (ap (λ (x : List ℕ × List ℕ × List ℕ). whole_outcome program (span_bytes x.0 x.1 x.2)) (λ i. (sym c i, sym t i, sym l i)) ∙ v))
 
 pub verdict_count : (program : Program) (version : Version) → length (verdicts_of program version) ≡ length version.rows
 verdict_count program version =

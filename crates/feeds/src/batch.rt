@@ -1,20 +1,19 @@
 ghost use Rattle.std.specs.Prelude.{◌≡◌, ◌≤◌, ◌+◌, ◌++◌, ◌∷◌, [], IfOk, OnOk, map, length, vec_len};
-ghost use Rattle.span_context.specs.declared.profile.Profile.TheVariants.{Two};
 ghost use Rattle.semantics.specs.Safe.{IsSpan};
 ghost use Rattle.program_reads.specs.declared.reads.Reads.{Reads};
-ghost use Rattle.program_reads.specs.Reads.{AgreesOn, Determines};
+ghost use Rattle.program_reads.specs.Reads.{AgreesOn};
+ghost use Rattle.filters.specs.Filters.{DeterminesRuns};
 ghost use Rattle.span_view.specs.Views.{SpanView};
 ghost use Rattle.span_view.specs.ContextOf.{bytes_of};
 ghost use Rattle.feeds.specs.Batches.{items_of, item_of, hits_from};
 ghost use Rattle.feeds.specs.Verdicts.{verdict_on, verdicts_of};
 
 use crate::item::{Finding, Item, Job};
-use interpreter::run::run;
+use filters::filter::Filter;
 use span_view::context::{context, link};
 use span_view::view::{SpanView, lent};
 use std::alloc::{AllocError, Global};
 use std::marker::Model;
-use verifier::verify::Verified;
 use version_history::published::{Naming, Published};
 use version_pieces::iter::spans_from;
 use version_pieces::version::PieceVersion;
@@ -44,20 +43,16 @@ impl<N: Naming> Model for Batch<N> {
 
 /// The verdict of a program on a span, and on each that agrees with it on what the program reads.
 #[tactic(auto, using(crate::proofs::Hits::verdict_is))]
-pub fn verdict(program: &Verified, span: &SpanView<'_>) -> u64
+pub fn verdict(program: &Filter, span: &SpanView<'_>) -> u64
     ensures verdict { result ≡ verdict_on program.now span.now }
-    ensures alike { (reads : Reads) (other : SpanView) → Determines reads Two program.now → IsSpan (bytes_of other)
+    ensures alike { (reads : Reads) (other : SpanView) → DeterminesRuns reads program.now → IsSpan (bytes_of other)
         → AgreesOn reads (bytes_of span.now) (bytes_of other) → result ≡ verdict_on program.now other }
 {
-    run(program, &context(span), span.text.as_bytes(), link(span))
+    program.run(&context(span), span.text.as_bytes(), link(span))
 }
 
 /// The verdicts of a program on all spans of a version, in order.
-fn verdicts(
-    alloc: Global,
-    program: &Verified,
-    version: &PieceVersion,
-) -> Result<Vec<u64>, AllocError>
+fn verdicts(alloc: Global, program: &Filter, version: &PieceVersion) -> Result<Vec<u64>, AllocError>
     ensures { IfOk result (λ found. found.items ≡ verdicts_of program.now version.now) }
 {
     let mut found = Vec::with_capacity(alloc, version.span_count())?;

@@ -5,17 +5,20 @@ ghost use Rattle.feeds.specs.Kept.{IsBlindToPosition, IsKnownOf};
 
 use crate::item::Job;
 use crate::stretch::Stretch;
+use filters::filter::Filter;
 use std::alloc::{AllocError, Global};
 use std::marker::Model;
-use verifier::verify::Verified;
 use version_history::published::{Naming, ProgramToken, Published, VersionToken};
 
 /// Whether a program's verdict on a span stays the same whatever the span's index, the count of spans and the
-/// version's number are: its list has none of them.
-pub fn is_blind_to_position(program: &Verified) -> bool
+/// version's number are: what it reads is known, and none of them.
+pub fn is_blind_to_position(program: &Filter) -> bool
     ensures { IsTrue result → IsBlindToPosition program.now }
 {
-    program.reads().is_positionless()
+    match program.reads() {
+        Some(reads) => reads.is_positionless(),
+        None => false,
+    }
 }
 
 /// The verdicts of a program on all spans of a version, in order.

@@ -1,6 +1,6 @@
 ghost use Rattle.std.specs.Prelude.{◌≡◌, ◌≤◌, ◌<◌, ◌-◌, ◌+◌, ◌++◌, ◌⊎◌, true, false, None, Some, [], length, take};
 ghost use Rattle.std.specs.Prelude.{drop, replicate, slice_get, MatchBool, MatchOption, IsTrue, ◌↔◌, IfOk};
-ghost use Rattle.semantics.specs.Safe.{Safe};
+ghost use Rattle.filters.specs.Filters.{IsFilter};
 ghost use Rattle.feeds.specs.Batches.{items_of};
 ghost use Rattle.feeds.specs.Orderly.{IsOrderly};
 ghost use Rattle.feeds.specs.Promise.{IsPromised, Suits, AreOfChanges};
@@ -275,7 +275,7 @@ impl<N: Naming, S: Sink<Item<N>>> Subscriber<N, S> {
     /// Where its items go.
     pub fn sink(&self) -> &S
         ensures value { result.now ≡ self.now.sink }
-        ensures safe { Safe self.now.program.value }
+        ensures safe { IsFilter self.now.program.value }
     {
         self.program.every_run_ends();
         &self.sink

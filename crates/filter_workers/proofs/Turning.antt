@@ -11,7 +11,7 @@ use Rattle.core_history.specs.Hubs.{HubEntry, Seen}
 use Rattle.ingest_workers.specs.Calls.{IsCall, IsLook, Makes}
 use Rattle.ingest_workers.proofs.Calls.{makes_same, makes_call, makes_look, makes_then, was_looked, was_before}
 use Rattle.filter_workers.specs.declared.work.TurnEnd.{TurnEnd}
-use Rattle.filter_workers.specs.Turns.{takes, commits, pumps, reissues, IsEnd, Served, serving, turn_of, TurnsShort, Turns, most_steps, Helps, WasMissed, CatchesUp}
+use Rattle.filter_workers.specs.Turns.{takes, commits, pumps, reissues, IsEnd, Served, serving, turn_of, TurnsShort, Turns, IsShort, Helps, WasMissed, CatchesUp}
 
 -- the batch of a job is committed or refused
 abbrev IsAnswer : Size → Seen → Job → TurnEnd → Seen → Type 0
@@ -28,18 +28,18 @@ abbrev Did : Size → Seen → (List HubEntry → Type 0) → Seen → Type 0
 Did size v fact w = (calls : List HubEntry) × Makes size v calls w × fact calls
 
 -- a longer job than so many steps
-pub is_long : (b : Bool) (steps most : ℕ) → (IsTrue b ↔ (steps ≤ most)) → b ≡ false → most < steps
-is_long b steps most iff is = lt_of_not-le (λ le. true≢false (sym (iff.1 le) ∙ is))
+pub is_long : (b : Bool) (job : Job) (most : ℕ) → (IsTrue b ↔ IsShort most job) → b ≡ false → ¬ IsShort most job
+is_long b job most iff is = λ short. true≢false (sym (iff.1 short) ∙ is)
 
-pub is_within : (b : Bool) (steps most : ℕ) → (IsTrue b ↔ (steps ≤ most)) → b ≡ true → steps ≤ most
-is_within b steps most iff is = iff.0 is
+pub is_within : (b : Bool) (job : Job) (most : ℕ) → (IsTrue b ↔ IsShort most job) → b ≡ true → IsShort most job
+is_within b job most iff is = iff.0 is
 
 -- a turn that found no memory answers so
 pub turns_short : {E : Type 0} (P : E → Type 0) (r : Result (Option TurnEnd) E) (calls : List HubEntry) → IsErrAnd r P → (job : Job) → TurnsShort job calls → Turns r calls
 turns_short P (Ok end) calls is job short = absurd is
 turns_short P (Err e) calls is job short = (job, short)
 
-pub helps_short : {E : Type 0} (P : E → Type 0) (most : ℕ) (r : Result Bool E) (calls : List HubEntry) → IsErrAnd r P → (job : Job) → most_steps job ≤ most → TurnsShort job calls → Helps most calls r
+pub helps_short : {E : Type 0} (P : E → Type 0) (most : ℕ) (r : Result Bool E) (calls : List HubEntry) → IsErrAnd r P → (job : Job) → IsShort most job → TurnsShort job calls → Helps most calls r
 helps_short P most (Ok b) calls is job few short = absurd is
 helps_short P most (Err e) calls is job few short = (job, few, short)
 

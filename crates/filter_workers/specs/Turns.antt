@@ -2,6 +2,7 @@
 use Rattle.std.specs.Prelude.{◌≡◌, ⊤, ℕ, zero, suc, ◌<◌, ◌≤◌, ◌+◌, ◌*◌, ◌⊎◌, Bool, true, false, Result, Ok, Err}
 use Rattle.std.specs.Prelude.{Option, Some, None, List, [], ◌∷◌, ◌++◌, All, Contains, length, map, sum, count_by}
 use Rattle.change_ops.specs.declared.size.Size.{Size}
+use Rattle.block_layout.specs.Meaning.{IsForward}
 use Rattle.feeds.specs.Batches.{Job}
 use Rattle.hub_core.specs.Machine.{Misses}
 use Rattle.hub_core.specs.declared.error.CommitError.{CommitError}
@@ -138,18 +139,22 @@ pub record Worked {E : Type 0} (size : Size) (turns : ℕ) (olds : List Seen) (r
     pub made : EachMakes size olds did news
     pub ended : WorkTogether turns result did
 
--- the most steps that running the program on each span of the version takes: a run takes at most one a slot, and to
--- begin it counts as 32
+-- the most steps that running a program without a jump back on each span of the version takes: a run takes at most one
+-- a slot, and to begin it counts as 32
 abbrev pub most_steps : Job → ℕ
 most_steps job = length job.version.value.rows * (length job.program.value + 32)
+
+-- the program has no jump back, and takes at most so many steps
+abbrev pub IsShort : ℕ → Job → Type 0
+IsShort most job = IsForward job.program.value × (most_steps job ≤ most)
 
 -- a job of at most `most` steps was taken and served; or a longer one was taken and left to its subscriber, or there
 -- was none to take; or, where no memory was found, what its subscriber is owed was handed out again
 abbrev pub Helps : {E : Type 0} → ℕ → List HubEntry → Result Bool E → Type 0
-Helps most calls (Ok true) = (s : Served) × (most_steps s.job ≤ most) × (calls ≡ turn_of s)
+Helps most calls (Ok true) = (s : Served) × IsShort most s.job × (calls ≡ turn_of s)
 Helps most calls (Ok false) =
-    (calls ≡ takes None ∷ []) ⊎ ((job : Job) × (most < most_steps job) × (calls ≡ takes (Some job) ∷ []))
-Helps most calls (Err _) = (job : Job) × (most_steps job ≤ most) × TurnsShort job calls
+    (calls ≡ takes None ∷ []) ⊎ ((job : Job) × ¬ IsShort most job × (calls ≡ takes (Some job) ∷ []))
+Helps most calls (Err _) = (job : Job) × IsShort most job × TurnsShort job calls
 
 -- what a subscriber was found to wait for is no version, or one behind this
 abbrev pub IsBehind : ℕ → Option Job → Type 0

@@ -3,17 +3,17 @@ ghost use Rattle.std.specs.Option.{option_map_or};
 ghost use Rattle.span_view.specs.Views.{view_at};
 ghost use Rattle.feeds.specs.Verdicts.{verdict_on, verdicts_of};
 ghost use Rattle.feeds.specs.Kept.{IsKnownOf};
-ghost use Rattle.filter_workers.specs.Turns.{most_steps};
+ghost use Rattle.filter_workers.specs.Turns.{IsShort};
 
 use feeds::batch::{Batch, verdict};
 use feeds::item::Job;
 use feeds::kept::{KeptVerdicts, Known};
 use feeds::stretch::Stretch;
+use filters::filter::Filter;
 use rayon::prelude::*;
 use span_view::view::view;
 use std::alloc::{AllocError, Global};
 use std::thread::Threads;
-use verifier::verify::Verified;
 use version_history::published::{Naming, Published};
 use version_pieces::version::PieceVersion;
 
@@ -34,7 +34,7 @@ fn spans_per_thread(workers: usize, steps: usize) -> usize
 /// The verdict on the span at an index, or 0 past the last one.
 fn verdict_at(
     alloc: Global,
-    program: &Verified,
+    program: &Filter,
     version: &PieceVersion,
     index: usize,
 ) -> Result<u64, AllocError>
@@ -52,7 +52,7 @@ fn verdict_at(
 fn verdicts_between<R: Threads + Sync>(
     rt: &R,
     alloc: Global,
-    program: &Verified,
+    program: &Filter,
     version: &PieceVersion,
     from: usize,
     to: usize,
@@ -74,13 +74,25 @@ fn verdicts_between<R: Threads + Sync>(
         .collect::<Result<Vec<u64>, AllocError>>(rt, alloc)?
 }
 
-/// Whether a job's batch takes at most `most` steps, a little counted for each run's start.
+/// Whether a job's batch takes at most `most` steps, a little counted for each run's start. That of a program that
+/// loops is never short.
 pub(crate) fn is_short<N: Naming>(published: &Published<'_, N>, job: &Job<N>, most: usize) -> bool
-    ensures { IsTrue result ↔ (most_steps job.now ≤ most) }
+    ensures { IsTrue result ↔ IsShort most job.now }
 {
-    let slots = published.program(&job.program).words().len();
+    let program = published.program(&job.program);
     let spans = published.look(&job.version).span_count();
-    spans.saturating_mul(slots + STEPS_TO_BEGIN) <= most
+    program.is_straight() && spans.saturating_mul(program.slots() + STEPS_TO_BEGIN) <= most
+}
+
+/// About how many steps a run may take.
+fn likely_steps(program: &Filter) -> usize
+    ensures { result ≤ 4096 }
+{
+    if program.is_straight() {
+        program.slots()
+    } else {
+        4096
+    }
 }
 
 /// The verdicts of a job's program on all spans of its version, where `workers` workers share the processors: the more
@@ -99,7 +111,7 @@ pub(crate) fn verdicts<N: Naming, R: Threads + Sync>(
 {
     let program = published.program(&job.program);
     let version = published.look(&job.version);
-    let least = spans_per_thread(workers, program.words().len());
+    let least = spans_per_thread(workers, likely_steps(program));
     let count = version.span_count();
     match known {
         None => verdicts_between(rt, alloc, program, version, 0, count, least),

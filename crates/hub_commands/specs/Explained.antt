@@ -16,6 +16,7 @@ use Rattle.verifier.specs.declared.refusal.VerifyError.{VerifyError}
 use Rattle.verifier.specs.Structure.{IsStructured}
 use Rattle.verifier.specs.Judged.{Rejects}
 use Rattle.verifier.specs.Decides.{IsAllowed}
+use Rattle.filters.specs.declared.refusal.FilterError.TheVariants.{Program as OfProgram}
 use Rattle.refusals.specs.declared.reason.Reason.TheVariants.{Unverified}
 use Rattle.hub_commands.specs.Answers.{Answer, line, done}
 use Rattle.hub_commands.specs.Hexadecimal.{without_blanks}
@@ -39,7 +40,9 @@ pub data IsExplainedReply (profile : Profile) (bytes : List ℕ) (reply : Answer
       → reply ≡ done (line (codes "accepted " ++ decimal (length (program_of bytes))) ++ text)
       → IsExplainedReply profile bytes reply
   rejected : (text : List ℕ) (error : VerifyError) → Rejects profile (program_of bytes) error
-      → reply ≡ record (refusal (Unverified error)) { text = (refusal (Unverified error)).text ++ text }
+      → reply ≡ record (refusal (Unverified (OfProgram error))) {
+        text = (refusal (Unverified (OfProgram error))).text ++ text;
+      }
       → IsExplainedReply profile bytes reply
 
 -- `check --explain`: of digits that are a program's bytes, that

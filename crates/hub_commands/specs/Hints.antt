@@ -40,7 +40,7 @@ digits_hint input = if begins_with_mark input then Some ByteOrderMark else
 -- to the input of a command
 abbrev pub hint_to : Command → List ℕ → Option Hint
 hint_to Asm = source_hint
-hint_to (Check detail profile) = digits_hint
+hint_to (Check detail rules) = digits_hint
 hint_to Dis = digits_hint
 hint_to (Join size) = text_hint
 hint_to (Run shown digits options) = λ input. pairs_hint (string_bytes digits)

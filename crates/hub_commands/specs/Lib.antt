@@ -14,3 +14,4 @@ pub mod KeptInput
 pub mod Straightened
 pub mod Requests
 pub mod Explained
+pub mod Loops

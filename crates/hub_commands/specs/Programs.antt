@@ -14,7 +14,9 @@ use Rattle.semantics.specs.declared.FaultKind.TheVariants.{UnsetRegister, BadAdd
 use Rattle.semantics.specs.declared.FaultKind.TheVariants.{BadInstruction, OutOfCode, WriteR10}
 use Rattle.semantics.specs.declared.Outcome.{Outcome}
 use Rattle.semantics.specs.declared.Outcome.TheVariants.{Done, Fault, OutOfSteps}
-use Rattle.semantics.specs.Outcomes.{outcome}
+use Rattle.semantics.specs.State.{start}
+use Rattle.semantics.specs.Step.{Program}
+use Rattle.semantics.specs.Outcomes.{outcome_from}
 use Rattle.semantics.specs.Safe.{SafeIn}
 use Rattle.verifier.specs.declared.refusal.VerifyError.{VerifyError}
 use Rattle.verifier.specs.Structure.{IsStructured}
@@ -23,6 +25,10 @@ use Rattle.verifier.specs.Decides.{IsAllowed}
 use Rattle.assembler.specs.declared.fault.AsmError.{AsmError}
 use Rattle.assembler.specs.Text.{AsmText, AsmFault}
 use Rattle.disassembler.specs.Canonical.{canonical}
+use Rattle.filters.specs.Filters.{longest_run}
+use Rattle.filters.specs.declared.refusal.FilterError.TheVariants.{Program as OfProgram}
+use Rattle.hub_requests.specs.declared.RunLimit.{RunLimit}
+use Rattle.hub_requests.specs.declared.RunLimit.TheVariants.{Slots, Longest}
 use Rattle.hub_requests.specs.declared.SpanOptions.{SpanOptions}
 use Rattle.hub_requests.specs.declared.Shown.{Shown}
 use Rattle.hub_requests.specs.declared.Shown.TheVariants as shows
@@ -61,7 +67,8 @@ pub data IsAcceptanceReply (profile : Profile) (bytes : List ℕ) (reply : Answe
       → IsAllowed profile (program_of bytes)
       → reply ≡ done (line (codes "accepted " ++ decimal (length (program_of bytes))))
       → IsAcceptanceReply profile bytes reply
-  rejected : (error : VerifyError) → Rejects profile (program_of bytes) error → reply ≡ refusal (Unverified error)
+  rejected : (error : VerifyError) → Rejects profile (program_of bytes) error
+      → reply ≡ refusal (Unverified (OfProgram error))
       → IsAcceptanceReply profile bytes reply
 
 -- `check`: whether a program is accepted
@@ -104,6 +111,16 @@ fault_name BadInstruction = codes "F5 BadInstruction"
 fault_name OutOfCode = codes "F6 OutOfCode"
 fault_name WriteR10 = codes "F7 WriteR10"
 
+-- how many steps a run may take
+abbrev pub steps_of : RunLimit → Program → ℕ
+steps_of Slots code = length code
+steps_of Longest code = longest_run
+
+-- how the run on a span ends, of as many steps as the options let it take
+abbrev pub run_outcome : SpanOptions → List ℕ → List ℕ → Outcome
+run_outcome options text bytes =
+    outcome_from (program_of bytes) (bytes_of options text) (steps_of options.limit (program_of bytes)) start
+
 -- what is answered to the outcome of a run
 abbrev pub outcome_reply : Outcome → Answer
 outcome_reply (Done verdict) = done (line (codes "verdict " ++ decimal verdict))
@@ -113,14 +130,14 @@ outcome_reply OutOfSteps = failed (codes "out of steps")
 -- of a program on a span with a text
 pub data IsSpanReply (options : SpanOptions) (text : List ℕ) (bytes : List ℕ) (reply : Answer) : Type 0 where
   no_text : ¬ (IsSpanText text) → reply ≡ refusal TextRefused → IsSpanReply options text bytes reply
-  ran : IsSpanText text → reply ≡ outcome_reply (outcome (program_of bytes) (bytes_of options text))
+  ran : IsSpanText text → reply ≡ outcome_reply (run_outcome options text bytes)
       → IsSpanReply options text bytes reply
 
 -- of a program on a span with a text: what `run` answers, behind further text where the program is run
 pub data IsTracedReply (options : SpanOptions) (text : List ℕ) (bytes : List ℕ) (reply : Answer) : Type 0 where
   not_run : ¬ (IsSpanText text) → reply ≡ refusal TextRefused → IsTracedReply options text bytes reply
   traced : (steps : List ℕ) → IsSpanText text
-      → reply ≡ behind steps (outcome_reply (outcome (program_of bytes) (bytes_of options text)))
+      → reply ≡ behind steps (outcome_reply (run_outcome options text bytes))
       → IsTracedReply options text bytes reply
 
 -- of a program on a span with a text, by what is shown of the run: how it ends, or first also its steps

@@ -1,10 +1,12 @@
 -- What is answered to each command.
 use Rattle.std.specs.Prelude.{ℕ, List, string_bytes}
+use Rattle.filters.specs.declared.rules.RuleSet.TheVariants.{Straight, Looping}
 use Rattle.hub_requests.specs.declared.Command.{Command}
 use Rattle.hub_requests.specs.declared.Command.TheVariants.{Asm, Check, Dis, Join, Run, Spans, Straighten}
 use Rattle.hub_requests.specs.declared.Detail.TheVariants.{Verdict, Reason, Listing}
 use Rattle.hub_commands.specs.Answers.{Answer}
 use Rattle.hub_commands.specs.Explained.{IsExplainReply}
+use Rattle.hub_commands.specs.Loops.{IsLoopsCheckReply}
 use Rattle.hub_commands.specs.JoinReply.{IsJoinReply}
 use Rattle.hub_commands.specs.Programs.{IsAsmReply, IsCheckReply, IsDisReply, IsRunReply}
 use Rattle.hub_commands.specs.SpansReply.{IsSpansReply}
@@ -13,9 +15,10 @@ use Rattle.hub_commands.specs.Straightened.{IsStraightenReply}
 -- the reply that the command gives to an input
 abbrev pub IsReplyTo : Command → List ℕ → Answer → Type 0
 IsReplyTo Asm = IsAsmReply
-IsReplyTo (Check Verdict profile) = IsCheckReply profile
-IsReplyTo (Check Reason profile) = IsExplainReply profile
-IsReplyTo (Check Listing profile) = IsExplainReply profile
+IsReplyTo (Check Verdict (Straight profile)) = IsCheckReply profile
+IsReplyTo (Check Reason (Straight profile)) = IsExplainReply profile
+IsReplyTo (Check Listing (Straight profile)) = IsExplainReply profile
+IsReplyTo (Check detail Looping) = IsLoopsCheckReply
 IsReplyTo Dis = IsDisReply
 IsReplyTo (Join size) = IsJoinReply size
 IsReplyTo (Run shown digits options) = IsRunReply shown (string_bytes digits) options

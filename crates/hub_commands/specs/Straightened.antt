@@ -12,6 +12,7 @@ use Rattle.block_layout.specs.declared.refusal.StraightenError.TheVariants as st
 use Rattle.block_layout.specs.Meaning.{MeansSame, IsForward}
 use Rattle.block_layout.specs.Refused.{IsRefused}
 use Rattle.refusals.specs.declared.reason.Reason.{Reason}
+use Rattle.filters.specs.declared.refusal.FilterError.TheVariants.{Program}
 use Rattle.refusals.specs.declared.reason.Reason.TheVariants.{Unverified, Words}
 use Rattle.hub_commands.specs.Answers.{Answer, done}
 use Rattle.hub_commands.specs.Hexadecimal.{without_blanks, slot_lines}
@@ -26,10 +27,10 @@ structure_fault FallOff = structure.FallOff
 
 -- a loop is a jump back; a program that has none, and no layout either, is too long without its jumps back
 abbrev pub reason_of : StraightenError → Reason
-reason_of (straight.Misplaced slot fault) = Unverified (Structure slot (structure_fault fault))
-reason_of (straight.Loop slot) = Unverified (Structure slot structure.BackwardJump)
+reason_of (straight.Misplaced slot fault) = Unverified (Program (Structure slot (structure_fault fault)))
+reason_of (straight.Loop slot) = Unverified (Program (Structure slot structure.BackwardJump))
 reason_of straight.NoLayout = Words TooLong
-reason_of straight.OutOfMemory = Unverified OutOfMemory
+reason_of straight.OutOfMemory = Unverified (Program OutOfMemory)
 
 -- of a program: one of the same meaning without a jump back, or why there is none
 pub data IsStraightReply (bytes : List ℕ) (reply : Answer) : Type 0 where

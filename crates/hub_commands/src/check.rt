@@ -15,6 +15,7 @@ use crate::failure::Failure;
 use crate::hex_input::HexInput;
 use crate::output::write_answer;
 use bpf_words::words::Words;
+use filters::refusal::FilterError;
 use refusals::reason::Reason;
 use span_context::profile::Profile;
 use std::alloc::{AllocError, Global};
@@ -39,7 +40,7 @@ pub fn acceptance_answer(
         → IfOk result (λ answer. IsAcceptanceReply profile words.now answer) }
 {
     if let Some(error) = rejection {
-        return Answer::refused(alloc, &Reason::Unverified(error));
+        return Answer::refused(alloc, &Reason::Unverified(FilterError::Program(error)));
     }
     let slots = words.len();
     let text = format!(in alloc; "accepted {slots}\n")?;

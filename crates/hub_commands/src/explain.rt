@@ -29,6 +29,7 @@ use crate::trail::push_trail;
 use abstract_state::refusal::Refusal;
 use bpf_words::instruction::Insn;
 use bpf_words::words::Words;
+use filters::refusal::FilterError;
 use program_reads::lines::push_reads;
 use program_reads::reads::Reads;
 use refusals::reason::Reason;
@@ -129,7 +130,7 @@ fn push_known_refused(
 
 /// Appends the instruction at which a program is refused, where the whole program is to be listed behind all others up
 /// to there; and what is known before it where it is refused for that.
-fn push_refused(
+pub(crate) fn push_refused(
     alloc: Global,
     text: &mut String,
     words: &Words<'_>,
@@ -161,7 +162,10 @@ fn refused_answer(
     requires { Rejects profile (program_of words.now) error }
     ensures { IfOk result (λ answer. IsExplainedReply profile words.now answer) }
 {
-    let Answer { ending, mut text } = Answer::refused(alloc, &Reason::Unverified(error))?;
+    let Answer { ending, mut text } = Answer::refused(
+        alloc,
+        &Reason::Unverified(FilterError::Program(error)),
+    )?;
     let mut explanation = String::new(alloc);
     push_refused(alloc, &mut explanation, words, profile, error, is_whole)?;
     text.push_str(explanation.as_str())?;
@@ -169,7 +173,7 @@ fn refused_answer(
 }
 
 /// The listing of an accepted program, where that is asked for.
-fn listing(
+pub(crate) fn listing(
     alloc: Global,
     words: &Words<'_>,
     profile: Profile,

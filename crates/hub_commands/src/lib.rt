@@ -5,6 +5,7 @@ mod answer;
 mod asm;
 mod changes_input;
 mod check;
+mod check_loops;
 mod digits;
 mod dis;
 pub mod ended;

@@ -5,6 +5,7 @@ ghost use Rattle.hub_commands.specs.Requests.{IsReplyTo};
 
 use crate::asm::asm;
 use crate::check::check;
+use crate::check_loops::check_loops;
 use crate::dis::dis;
 use crate::ended::Ended;
 use crate::explain::explain;
@@ -14,6 +15,7 @@ use crate::join::join;
 use crate::run::run;
 use crate::spans::spans;
 use crate::straighten::straighten;
+use filters::rules::RuleSet;
 use hub_requests::{Command, Detail};
 use std::alloc::Global;
 use std::io::{Read, Write};
@@ -32,10 +34,13 @@ pub fn perform<R: Read, W: Write>(
 {
     match command {
         Command::Asm => asm(alloc, reader, writer),
-        Command::Check { detail, profile } => match detail {
-            Detail::Verdict => check(alloc, *profile, reader, writer),
-            Detail::Reason => explain(alloc, *profile, false, reader, writer),
-            Detail::Listing => explain(alloc, *profile, true, reader, writer),
+        Command::Check { detail, rules } => match rules {
+            RuleSet::Straight(profile) => match detail {
+                Detail::Verdict => check(alloc, *profile, reader, writer),
+                Detail::Reason => explain(alloc, *profile, false, reader, writer),
+                Detail::Listing => explain(alloc, *profile, true, reader, writer),
+            },
+            RuleSet::Looping => check_loops(alloc, *detail, reader, writer),
         },
         Command::Dis => dis(alloc, reader, writer),
         Command::Join { size } => join(alloc, *size, reader, writer),

@@ -1,7 +1,8 @@
 ghost use Rattle.std.specs.Prelude.{◌≡◌, ◌≤◌, length, IfOk, IfSome};
+ghost use Rattle.bpf_words.specs.Words.{program_of};
 ghost use Rattle.hub_commands.specs.Answers.{IsAnswered};
-ghost use Rattle.hub_commands.specs.Programs.{fault_name, facts_of, link_of, outcome_reply, IsSpanReply, IsShownReply};
-ghost use Rattle.hub_commands.specs.Programs.{IsRunReply};
+ghost use Rattle.hub_commands.specs.Programs.{fault_name, facts_of, link_of, steps_of};
+ghost use Rattle.hub_commands.specs.Programs.{outcome_reply, IsSpanReply, IsShownReply, IsRunReply};
 
 use crate::answer::Answer;
 use crate::failure::Failure;
@@ -9,8 +10,9 @@ use crate::input::read_past;
 use crate::output::write_answer;
 use crate::trace::steps_answer;
 use bpf_words::words::Words;
-use hub_requests::{Shown, SpanOptions};
-use interpreter::run::run_checked;
+use filters::filter::longest_run;
+use hub_requests::{RunLimit, Shown, SpanOptions};
+use interpreter::run::run_steps;
 use refusals::reason::Reason;
 use semantics::{FaultKind, Outcome};
 use span_context::context::{Context, Facts, TEXT_LIMIT};
@@ -61,6 +63,16 @@ pub fn facts(options: &SpanOptions, text: &str) -> Facts
     }
 }
 
+/// How many steps the options let a run take.
+pub fn step_limit(options: &SpanOptions, words: &Words<'_>) -> usize
+    ensures { result ≡ steps_of options.now.limit (program_of words.now) }
+{
+    match options.limit {
+        RunLimit::Slots => words.len(),
+        RunLimit::Longest => longest_run(),
+    }
+}
+
 /// What is answered to the outcome of a run.
 pub fn outcome_answer(alloc: Global, outcome: Outcome) -> Result<Answer, AllocError>
     ensures { IfOk result (λ answer. answer ≡ outcome_reply outcome) }
@@ -97,7 +109,13 @@ pub fn span_answer(
     let context = Context::new(&facts(options, text));
     outcome_answer(
         alloc,
-        run_checked(words, &context, text.as_bytes(), link(options)),
+        run_steps(
+            words,
+            step_limit(options, words),
+            &context,
+            text.as_bytes(),
+            link(options),
+        ),
     )
 }
 

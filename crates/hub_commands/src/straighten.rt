@@ -1,4 +1,6 @@
 ghost use Rattle.std.specs.Prelude.{◌≡◌, ℕ, List, IfOk, IfSome};
+ghost use Rattle.filters.specs.declared.refusal.FilterError.TheVariants.{Program};
+ghost use Rattle.refusals.specs.declared.reason.Reason.TheVariants as TheReason;
 ghost use Rattle.hub_commands.specs.Answers.{IsAnswered};
 ghost use Rattle.hub_commands.specs.Digits.{AreDigits};
 ghost use Rattle.hub_commands.specs.Hexadecimal.{without_blanks};
@@ -16,6 +18,7 @@ use block_layout::refusal::{StraightenError, WayFault};
 use block_layout::straighten::straighten as straightened;
 use bpf_words::refusal::WordError;
 use bpf_words::words::Words;
+use filters::refusal::FilterError;
 use refusals::reason::Reason;
 use std::alloc::{AllocError, Global};
 use std::io::{Read, Write};
@@ -31,21 +34,27 @@ fn structure_fault(fault: WayFault) -> StructureFault
     }
 }
 
+fn refused(error: VerifyError) -> Reason
+    ensures { result ≡ TheReason.Unverified (Program error) }
+{
+    Reason::Unverified(FilterError::Program(error))
+}
+
 /// Why a program isn't straightened: a fault of its structure, as `check` names it, or its length without jumps back.
 fn reason_of(error: StraightenError) -> Reason
     ensures { result ≡ reason_of error }
 {
     match error {
-        StraightenError::Misplaced { slot, fault } => Reason::Unverified(VerifyError::Structure {
+        StraightenError::Misplaced { slot, fault } => refused(VerifyError::Structure {
             slot,
             fault: structure_fault(fault),
         }),
-        StraightenError::Loop { slot } => Reason::Unverified(VerifyError::Structure {
+        StraightenError::Loop { slot } => refused(VerifyError::Structure {
             slot,
             fault: StructureFault::BackwardJump,
         }),
         StraightenError::NoLayout => Reason::Words(WordError::TooLong),
-        StraightenError::OutOfMemory => Reason::Unverified(VerifyError::OutOfMemory),
+        StraightenError::OutOfMemory => refused(VerifyError::OutOfMemory),
     }
 }
 

@@ -4,7 +4,7 @@ ghost use Rattle.hub_commands.specs.Programs.{IsTracedReply};
 
 use crate::answer::Answer;
 use crate::listing::push_instruction;
-use crate::run::{facts, link, outcome_answer};
+use crate::run::{facts, link, outcome_answer, step_limit};
 use bpf_words::instruction::Insn;
 use bpf_words::register::Register;
 use bpf_words::words::Words;
@@ -131,6 +131,13 @@ pub(crate) fn steps_answer(
     let mut steps = Steps {
         text: String::new(alloc),
     };
-    let outcome = run_observed(words, &context, text.as_bytes(), link(options), &mut steps)?;
+    let outcome = run_observed(
+        words,
+        step_limit(options, words),
+        &context,
+        text.as_bytes(),
+        link(options),
+        &mut steps,
+    )?;
     outcome_answer(alloc, outcome)?.behind(steps.text)
 }

@@ -8,7 +8,7 @@ use Rattle.change_ops.specs.Changes.{Change}
 use Rattle.change_ops.specs.declared.size.Size.{Size}
 use Rattle.change_ops.specs.Sizes.{most_changes}
 use Rattle.semantics.specs.Step.{Program}
-use Rattle.semantics.specs.Safe.{Safe}
+use Rattle.filters.specs.Filters.{IsFilter}
 use Rattle.span_flatten.specs.Version.{Version, IsVersion}
 use Rattle.version_history.specs.Tokens.{Token}
 use Rattle.feeds.specs.Batches.{Item, Job}
@@ -314,13 +314,13 @@ module _ {S : Type 0} where
       fits a (subst (λ (y : Core S). IsOpen y id a) same (open_both s id x a within read opened found))
 
   -- what holds of it, its program is safe, holds of the one with the id
-  pub safe_there : (o s : Core S) (id : ℕ) (a : Subscriber S) → s ≡ o → id < length s.subscribers → a ≡ get_or s.subscribers id a → Safe a.program.value → (x : Subscriber S) → slice_get o.subscribers id ≡ Some x → Safe x.program.value
+  pub safe_there : (o s : Core S) (id : ℕ) (a : Subscriber S) → s ≡ o → id < length s.subscribers → a ≡ get_or s.subscribers id a → IsFilter a.program.value → (x : Subscriber S) → slice_get o.subscribers id ≡ Some x → IsFilter x.program.value
   safe_there o s id a same within at safe x there =
       let read : slice_get o.subscribers id ≡ Some a = subst (λ (y : Core S). slice_get y.subscribers id ≡ Some a) same (reads s id a within at) in
       let one : a ≡ x = same_Some a x (sym read ∙ there) in
-      subst (λ (y : Subscriber S). Safe y.program.value) one safe
+      subst (λ (y : Subscriber S). IsFilter y.program.value) one safe
 
-  pub none_there : (o s : Core S) (id : ℕ) → s ≡ o → length s.subscribers ≤ id → (x : Subscriber S) → slice_get o.subscribers id ≡ Some x → Safe x.program.value
+  pub none_there : (o s : Core S) (id : ℕ) → s ≡ o → length s.subscribers ≤ id → (x : Subscriber S) → slice_get o.subscribers id ≡ Some x → IsFilter x.program.value
   none_there o s id same past x there =
       let none : slice_get s.subscribers id ≡ None = slice_get_past s.subscribers id past in
       absurd (none-some x (sym none ∙ subst (λ (y : Core S). slice_get y.subscribers id ≡ Some x) (sym same) there))

@@ -4,7 +4,7 @@ ghost use Rattle.change_ops.specs.Changes.{Change};
 ghost use Rattle.change_ops.specs.Sizes.{most_changes};
 ghost use Rattle.change_ops.specs.Spelling.{change_text};
 ghost use Rattle.char_sequence.specs.Newest.{IsLastCounter};
-ghost use Rattle.semantics.specs.Safe.{Safe};
+ghost use Rattle.filters.specs.Filters.{IsFilter};
 ghost use Rattle.span_flatten.specs.Version.{IsVersion};
 ghost use Rattle.feeds.specs.Feed.{Subscriber as SubscriberValue};
 ghost use Rattle.change_history.specs.Accepted.{AreAccepted, operations_of};
@@ -540,7 +540,7 @@ impl<'p, N: Naming, S: Sink<Item<N>>> Core<'p, N, S> {
         ensures stream { (a : SubscriberValue S) → slice_get self.now.subscribers id ≡ Some a
             → BeginsStream a.program.value self.now.changes a.first (length self.now.changes)
             (map (λ item. item.what) (S.sent a.sink)) }
-        ensures safe { (a : SubscriberValue S) → slice_get self.now.subscribers id ≡ Some a → Safe a.program.value }
+        ensures safe { (a : SubscriberValue S) → slice_get self.now.subscribers id ≡ Some a → IsFilter a.program.value }
     {
         if id >= self.subscribers.len() {
             return None;

@@ -18,6 +18,7 @@ use change_keeping::serving::keep_all;
 use change_log::log::ChangeLog;
 use core_history::share::Share;
 use core_history::start::Start;
+use filters::filter::Filter;
 use hub_requests::serving::{Doors, Terms};
 use hub_restoring::restoring::{NotRestored, restore};
 use ingest_workers::hub::Hub;
@@ -32,7 +33,6 @@ use std::sync::ledger::Ledger;
 use std::thread::Threads;
 use std::{io, thread};
 use stored_history::history::StoredHistory;
-use verifier::verify::Verified;
 use version_history::published::{Naming, Published};
 use version_pieces::version::PieceVersion;
 
@@ -164,7 +164,7 @@ fn serve_on<
     alloc: Global,
     start: Start,
     versions: &'p boxcar::Vec<PieceVersion>,
-    programs: &'p boxcar::Vec<Verified>,
+    programs: &'p boxcar::Vec<Filter>,
     sessions: usize,
     plan: &Plan<'_, J>,
     writer: &mut W,
@@ -309,7 +309,7 @@ fn serve_kept_on<
     alloc: Global,
     start: Start,
     versions: &'p boxcar::Vec<PieceVersion>,
-    programs: &'p boxcar::Vec<Verified>,
+    programs: &'p boxcar::Vec<Filter>,
     sessions: usize,
     plan: &Plan<'_, J>,
     log: L,

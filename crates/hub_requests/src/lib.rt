@@ -13,15 +13,25 @@ use crate::limits::SessionOptions;
 use crate::serving::{Doors, StoreFile, Terms};
 use change_ops::attribute::Link;
 use change_ops::size::Size;
-use span_context::profile::Profile;
+use filters::rules::RuleSet;
 use std::marker::Model;
 
 /// The most bytes that the text of a link has.
 pub const MOST_LINK_BYTES: u32 = 1_024;
 
-/// What the options of `run` say of the span.
+/// How many steps `run` lets a run take.
+#[derive(Clone, Copy)]
+pub enum RunLimit {
+    /// As many as the program has slots.
+    Slots,
+    /// As many as a program that loops may take.
+    Longest,
+}
+
+/// What the options of `run` say of the span, and how long the run may be.
 #[derive(Drop)]
 pub struct SpanOptions {
+    pub limit: RunLimit,
     pub flags: u32,
     pub color: u32,
     pub link: Option<Link>,
@@ -59,7 +69,7 @@ pub enum Command {
     /// To say whether the program that it is in hexadecimal is accepted.
     Check {
         detail: Detail,
-        profile: Profile,
+        rules: RuleSet,
     },
     /// To print the text of the program that it is in hexadecimal.
     Dis,

@@ -170,7 +170,7 @@ broke_short (Err f) s left text s' left' is p = subst (λ z. BreaksTurn z s left
 short_lines : {size : Size} {kept : Kept} (request : SessionRequest) (s : SessionState size kept) (text lines : List ℕ) (answer : Reply) (s' : SessionState size kept)
     → Answers request s [] (text ++ lines) answer s' → AreApart request text lines → lines ≡ short_text (next.Request request) (text ++ lines)
 short_lines (asked.Change change) s text lines answer s' met none = sym (ap (λ l. l ++ lines) none) ∙ met.2
-short_lines (asked.Subscribe profile capacity program first) s text lines answer s' met none = sym (ap (λ l. l ++ lines) none) ∙ met.1
+short_lines (asked.Subscribe rule_set capacity program first) s text lines answer s' met none = sym (ap (λ l. l ++ lines) none) ∙ met.1
 short_lines (asked.Pull id count) s text lines answer s' met none = sym (ap (λ l. l ++ lines) none)
 short_lines (asked.Close id) s text lines answer s' met none = sym (ap (λ l. l ++ lines) none) ∙ met.1
 short_lines (asked.Read query) s text lines answer s' met none = none

@@ -6,7 +6,7 @@ use Rattle.change_ops.specs.declared.size.Size.{Size}
 use Rattle.change_ops.specs.declared.refusal.ChangeError.TheVariants as reading
 use Rattle.change_history.specs.declared.refusal.SubmitError.{SubmitError}
 use Rattle.change_keeping.specs.Kept.{Kept}
-use Rattle.span_context.specs.declared.profile.Profile.{Profile}
+use Rattle.filters.specs.declared.rules.RuleSet.{RuleSet}
 use Rattle.hub_core.specs.Machine.{Core}
 use Rattle.hub_core.specs.declared.run.Reply.TheVariants as told
 use Rattle.subscriber_queues.specs.Queue.{QueueSink}
@@ -98,24 +98,24 @@ module _ (size : Size) where
   refused_for : (v w : Seen) (bytes : List ℕ) (first : Option ℕ) (error : _) → IsRefusedFor size v w bytes first error → MakesSome size v w
   refused_for v w bytes first error is = (_, is.3)
 
-  not_subscribed : (v w : Seen) (profile : Profile) (capacity : ℕ) (bytes : List ℕ) (first : Option ℕ) (why : Reason) → IsNotSubscribed size v w profile capacity bytes first why → MakesSome size v w
-  not_subscribed v w profile capacity bytes first (reason.Words error) is = none_made v w is.1
-  not_subscribed v w profile capacity bytes first (reason.Unverified error) is = none_made v w is.2
-  not_subscribed v w profile capacity bytes first reason.BadCapacity is = ([], is.2)
-  not_subscribed v w profile capacity bytes first reason.SubscribersFull is = elim is.1 [ inl look ↦ looked v w _ look | inr refused ↦ refused_for v w bytes first _ refused ]
-  not_subscribed v w profile capacity bytes (Some number) reason.NoVersion is =
+  not_subscribed : (v w : Seen) (rule_set : RuleSet) (capacity : ℕ) (bytes : List ℕ) (first : Option ℕ) (why : Reason) → IsNotSubscribed size v w rule_set capacity bytes first why → MakesSome size v w
+  not_subscribed v w rule_set capacity bytes first (reason.Words error) is = none_made v w is.1
+  not_subscribed v w rule_set capacity bytes first (reason.Unverified error) is = none_made v w is.2
+  not_subscribed v w rule_set capacity bytes first reason.BadCapacity is = ([], is.2)
+  not_subscribed v w rule_set capacity bytes first reason.SubscribersFull is = elim is.1 [ inl look ↦ looked v w _ look | inr refused ↦ refused_for v w bytes first _ refused ]
+  not_subscribed v w rule_set capacity bytes (Some number) reason.NoVersion is =
       elim is.1 [
         | inl lacks ↦ then_made v lacks.0 w (looked v lacks.0 _ lacks.1) (looked lacks.0 w _ lacks.2)
         | inr refused ↦ refused_for v w bytes (Some number) _ refused
       ]
-  not_subscribed v w profile capacity bytes first reason.OutOfMemory is = elim is.1 [ inl none ↦ ([], none) | inr refused ↦ refused_for v w bytes first _ refused ]
-  not_subscribed v w profile capacity bytes first _ is = absurd is
+  not_subscribed v w rule_set capacity bytes first reason.OutOfMemory is = elim is.1 [ inl none ↦ ([], none) | inr refused ↦ refused_for v w bytes first _ refused ]
+  not_subscribed v w rule_set capacity bytes first _ is = absurd is
 
-  adds_make : (v w : Seen) (profile : Profile) (capacity : ℕ) (bytes : List ℕ) (first : Option ℕ) (left : SessionLimits) (held : List Held) (answer : Reply) (left' : SessionLimits) (held' : List Held)
-      → Adds size v w profile capacity bytes first left held answer left' held' → MakesSome size v w
-  adds_make v w profile capacity bytes first left held (reply.Subscribed id) left' held' is = (_, is.2.calls)
-  adds_make v w profile capacity bytes first left held (reply.Refused why) left' held' is = elim is.2 [ inl not ↦ not_subscribed v w profile capacity bytes first why not | inr past ↦ none_made v w past.3 ]
-  adds_make v w profile capacity bytes first left held _ left' held' is = absurd is
+  adds_make : (v w : Seen) (rule_set : RuleSet) (capacity : ℕ) (bytes : List ℕ) (first : Option ℕ) (left : SessionLimits) (held : List Held) (answer : Reply) (left' : SessionLimits) (held' : List Held)
+      → Adds size v w rule_set capacity bytes first left held answer left' held' → MakesSome size v w
+  adds_make v w rule_set capacity bytes first left held (reply.Subscribed id) left' held' is = (_, is.2.calls)
+  adds_make v w rule_set capacity bytes first left held (reply.Refused why) left' held' is = elim is.2 [ inl not ↦ not_subscribed v w rule_set capacity bytes first why not | inr past ↦ none_made v w past.3 ]
+  adds_make v w rule_set capacity bytes first left held _ left' held' is = absurd is
 
   closes_make : (v w : Seen) (held : List Held) (id : ℕ) (answer : Reply) (held' : List Held) → Closes size v w held id answer held' → MakesSome size v w
   closes_make v w held id (reply.Closed closed) held' is = (_, is.5)
@@ -168,7 +168,7 @@ module _ (size : Size) where
 module _ (size : Size) (kept : Kept) where
   answers_make : (request : SessionRequest) (s : SessionState size kept) (out out' : List ℕ) (answer : Reply) (s' : SessionState size kept) → Answers request s out out' answer s' → MakesSome size s.share s'.share
   answers_make (asked.Change change) s out out' answer s' is = submits_make size s.share s'.share kept s.stores s.options change s.left answer s'.left is.0
-  answers_make (asked.Subscribe profile capacity program first) s out out' answer s' is = adds_make size s.share s'.share profile capacity program.items first s.left s.held answer s'.left s'.held is.0
+  answers_make (asked.Subscribe rule_set capacity program first) s out out' answer s' is = adds_make size s.share s'.share rule_set capacity program.items first s.left s.held answer s'.left s'.held is.0
   answers_make (asked.Pull id count) s out out' answer s' is = pulls_make size s.share s'.share s.options.reads id count s.held s'.held out out' answer is.0
   answers_make (asked.Close id) s out out' answer s' is = closes_make size s.share s'.share s.held id answer s'.held is.0
   answers_make (asked.Read query) s out out' answer s' is = reads_make size s.share s'.share s.options.reads s.options.hub s.options.memory query is.0 answer is.2

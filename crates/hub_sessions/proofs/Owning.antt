@@ -5,7 +5,7 @@ use Rattle.std.proofs.lemmas.List.Elements.{All-push, All-append, All-set, All-t
 use Rattle.std.proofs.lemmas.Option.{get_or_from_slice_get, slice_get_within}
 use Rattle.change_ops.specs.declared.size.Size.{Size}
 use Rattle.change_keeping.specs.Kept.{Kept}
-use Rattle.span_context.specs.declared.profile.Profile.{Profile}
+use Rattle.filters.specs.declared.rules.RuleSet.{RuleSet}
 use Rattle.subscriber_queues.specs.Queue.{QueueSink, Line, Subscription}
 use Rattle.call_history.specs.Calls.{Has}
 use Rattle.core_history.specs.Hubs.{HubEntry, Seen}
@@ -44,19 +44,19 @@ module _ (size : Size) where
       All-weaker (λ (one : Held). IsOwnSubscriber v one.id one.items) (λ (one : Held). IsOwnSubscriber w one.id one.items) (λ (one : Held) was. own_later size v w one.id one.items one.items made.0 made.1 refl refl was) held own
 
   -- one that was just added
-  own_subscribed : (v w : Seen) (profile : Profile) (capacity : ℕ) (bytes : List ℕ) (first : Option ℕ) (id : ℕ) (line : Line) → IsSubscribed size v w profile capacity bytes first id line
+  own_subscribed : (v w : Seen) (rule_set : RuleSet) (capacity : ℕ) (bytes : List ℕ) (first : Option ℕ) (id : ℕ) (line : Line) → IsSubscribed size v w rule_set capacity bytes first id line
       → IsOwnSubscriber w id (record { line = line; promise = Some (promise_of size bytes first); taken = []; shown = [] })
-  own_subscribed v w profile capacity bytes first id line is =
+  own_subscribed v w rule_set capacity bytes first id line is =
       let sink : QueueSink = record { line = line; sent = []; capacity = capacity; promise = Some (promise_of size bytes first); sends = true } in
       let at = first_place v w _ is.calls.places is.calls.own is.calls.stand in
       record { place = at.0; own = at.1; first = first; program = is.token; sink = sink; entry = at.2; sends = refl; line = refl; promise = refl }
 
-  adds_own : (v w : Seen) (profile : Profile) (capacity : ℕ) (bytes : List ℕ) (first : Option ℕ) (left : SessionLimits) (held : List Held) (answer : Reply) (left' : SessionLimits) (held' : List Held)
-      → Adds size v w profile capacity bytes first left held answer left' held' → AreOwnSubscribers w held → AreOwnSubscribers w held'
-  adds_own v w profile capacity bytes first left held (reply.Subscribed id) left' held' is own =
-      subst (AreOwnSubscribers w) (sym is.1) (All-push (λ (one : Held). IsOwnSubscriber w one.id one.items) held _ own (own_subscribed v w profile capacity bytes first id is.0 is.2))
-  adds_own v w profile capacity bytes first left held (reply.Refused why) left' held' is own = subst (AreOwnSubscribers w) (sym is.0) own
-  adds_own v w profile capacity bytes first left held _ left' held' is own = absurd is
+  adds_own : (v w : Seen) (rule_set : RuleSet) (capacity : ℕ) (bytes : List ℕ) (first : Option ℕ) (left : SessionLimits) (held : List Held) (answer : Reply) (left' : SessionLimits) (held' : List Held)
+      → Adds size v w rule_set capacity bytes first left held answer left' held' → AreOwnSubscribers w held → AreOwnSubscribers w held'
+  adds_own v w rule_set capacity bytes first left held (reply.Subscribed id) left' held' is own =
+      subst (AreOwnSubscribers w) (sym is.1) (All-push (λ (one : Held). IsOwnSubscriber w one.id one.items) held _ own (own_subscribed v w rule_set capacity bytes first id is.0 is.2))
+  adds_own v w rule_set capacity bytes first left held (reply.Refused why) left' held' is own = subst (AreOwnSubscribers w) (sym is.0) own
+  adds_own v w rule_set capacity bytes first left held _ left' held' is own = absurd is
 
   closes_own : (v w : Seen) (held : List Held) (id : ℕ) (answer : Reply) (held' : List Held) → Closes size v w held id answer held' → AreOwnSubscribers w held → AreOwnSubscribers w held'
   closes_own v w held id (reply.Closed closed) held' is own =
@@ -84,8 +84,8 @@ module _ (size : Size) where
 module _ (size : Size) (kept : Kept) where
   met_own : (came : Next) (s : SessionState size kept) (out out' : List ℕ) (answer : Reply) (s' : SessionState size kept) → Meets came s out out' answer s' → AreOwnSubscribers s'.share s.held → AreOwnSubscribers s'.share s'.held
   met_own (next.Request (asked.Change change)) s out out' answer s' is own = subst (AreOwnSubscribers s'.share) (sym is.1) own
-  met_own (next.Request (asked.Subscribe profile capacity program first)) s out out' answer s' is own =
-      adds_own size s.share s'.share profile capacity program.items first s.left s.held answer s'.left s'.held is.0 own
+  met_own (next.Request (asked.Subscribe rule_set capacity program first)) s out out' answer s' is own =
+      adds_own size s.share s'.share rule_set capacity program.items first s.left s.held answer s'.left s'.held is.0 own
   met_own (next.Request (asked.Pull id count)) s out out' answer s' is own = pulls_own size s.share s'.share s.options.reads id count s.held s'.held out out' answer is.0 own
   met_own (next.Request (asked.Close id)) s out out' answer s' is own = closes_own size s.share s'.share s.held id answer s'.held is.0 own
   met_own (next.Request (asked.Read query)) s out out' answer s' is own = subst (AreOwnSubscribers s'.share) (sym (ap (λ (z : SessionState size kept). z.held) is.3)) own

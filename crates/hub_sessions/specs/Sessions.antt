@@ -59,8 +59,8 @@ abbrev pub Answers : {size : Size} {kept : Kept} → SessionRequest → SessionS
 Answers {size} {kept} (asked.Change change) s out out' answer s' =
     Submits size s.share s'.share kept s.stores s.options change s.left answer s'.left
     × (s'.held ≡ s.held) × (out' ≡ out) × (s'.options ≡ s.options) × (s'.stores ≡ s.stores)
-Answers {size} (asked.Subscribe profile capacity program first) s out out' answer s' =
-    Adds size s.share s'.share profile capacity program.items first s.left s.held answer s'.left s'.held
+Answers {size} (asked.Subscribe rules capacity program first) s out out' answer s' =
+    Adds size s.share s'.share rules capacity program.items first s.left s.held answer s'.left s'.held
     × (out' ≡ out) × (s'.options ≡ s.options) × (s'.stores ≡ s.stores)
 Answers {size} (asked.Pull id count) s out out' answer s' =
     PullsAny size s.share s'.share s.options.reads id count s.held s'.held out out' answer

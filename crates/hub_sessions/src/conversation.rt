@@ -156,11 +156,11 @@ fn answer<
             hub, keeper, share, left, change,
         ))),
         SessionRequest::Subscribe {
-            profile,
+            rules,
             capacity,
             program,
             first,
-        } => Ok(Answer::line(hub.subscribe(share, held, left, profile, capacity, &program, first))),
+        } => Ok(Answer::line(hub.subscribe(share, held, left, rules, capacity, &program, first))),
         SessionRequest::Pull { subscriber, count } => {
             let reply = hub.pull(share, held, subscriber, count, out)?;
             Ok(Answer::line(reply))

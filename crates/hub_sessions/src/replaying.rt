@@ -11,6 +11,7 @@ use change_keeping::own::OwnStore;
 use change_log::log::ChangeLog;
 use change_ops::size::Size;
 use core_history::start::Start;
+use filters::filter::Filter;
 use hub_requests::limits::SessionOptions;
 use hub_restoring::restoring::{NotRestored, restore};
 use ingest_workers::hub::Hub;
@@ -21,7 +22,6 @@ use std::marker::Brand;
 use std::sync::Wait;
 use std::sync::ledger::Ledger;
 use std::thread::Threads;
-use verifier::verify::Verified;
 use version_history::published::{Naming, Published};
 use version_pieces::version::PieceVersion;
 
@@ -54,7 +54,7 @@ fn replay_on<
     size: Size,
     start: Start,
     versions: &boxcar::Vec<PieceVersion>,
-    programs: &boxcar::Vec<Verified>,
+    programs: &boxcar::Vec<Filter>,
     reader: I,
     writer: &mut O,
     workers: usize,
@@ -141,7 +141,7 @@ fn replay_kept_on<
     size: Size,
     start: Start,
     versions: &boxcar::Vec<PieceVersion>,
-    programs: &boxcar::Vec<Verified>,
+    programs: &boxcar::Vec<Filter>,
     log: L,
     progress: P,
     reader: I,

@@ -4,7 +4,7 @@ ghost use Rattle.change_ops.specs.Sizes.{most_changes};
 ghost use Rattle.change_ops.specs.Spelling.{change_text};
 ghost use Rattle.char_sequence.specs.Newest.{IsLastCounter};
 ghost use Rattle.change_counters.specs.Counters.{greatest_counter};
-ghost use Rattle.semantics.specs.Safe.{Safe};
+ghost use Rattle.filters.specs.Filters.{IsFilter};
 ghost use Rattle.feeds.specs.Feed.{Subscriber};
 ghost use Rattle.feeds.specs.Promise.{Suits};
 ghost use Rattle.feeds.specs.Stream.{BeginsStream};
@@ -370,7 +370,7 @@ impl<'p, N: Naming + HistoryNaming + Ledger, R: Wait + Copy> Books<'p, N, R> {
             → BeginsStream a.program.value self.now.core.changes a.first (length self.now.core.changes)
             (map (λ item. item.what) a.sink.sent) }
         ensures safe { (a : Subscriber QueueSinkValue) → slice_get self.now.core.subscribers id ≡ Some a
-            → Safe a.program.value }
+            → IsFilter a.program.value }
     {
         self.recorded.core().sink(id)
     }

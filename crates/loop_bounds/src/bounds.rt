@@ -142,7 +142,7 @@ impl Bounding<'_> {
                 let Some(by) = self.moves(inner, &held) else {
                     continue;
                 };
-                let rest = self.still(inner, &held)?;
+                let rest = self.still(inner, &held, by)?;
                 let Some(turn) = self.potentials(depth - 1, part, &rest)? else {
                     continue;
                 };
@@ -160,19 +160,30 @@ impl Bounding<'_> {
 
     /// By how much a value moves at least on the edges where it does, and which way; none where it doesn't go one way.
     fn moves(&self, inner: &[Edge], held: &Held) -> Option<i64> {
-        let mut by: i64 = 0;
+        let mut up = Some(0);
+        let mut down = Some(0);
         for edge in inner {
-            let more = growth(self.words, self.states, edge, held)?;
-            by = slower(by, more)?;
+            let by = growth(self.words, self.states, edge, held)?;
+            up = slower(up, by.low);
+            down = slower(down, by.high.checked_neg()?);
         }
-        if by == 0 { None } else { Some(by) }
+        match (up, down) {
+            (Some(0) | None, Some(0) | None) => None,
+            (Some(0) | None, Some(by)) => by.checked_neg(),
+            (by, _) => by,
+        }
     }
 
-    /// The edges on which it stands still.
-    fn still(&self, inner: &[Edge], held: &Held) -> Result<Vec<Edge>, AllocError> {
+    /// The edges on which it may stand still.
+    fn still(&self, inner: &[Edge], held: &Held, by: i64) -> Result<Vec<Edge>, AllocError> {
         let mut rest = Vec::new(self.alloc);
         for edge in inner {
-            if let Some(0) = growth(self.words, self.states, edge, held) {
+            let least = match growth(self.words, self.states, edge, held) {
+                Some(growth) if by > 0 => growth.low,
+                Some(growth) => growth.high,
+                None => 0,
+            };
+            if least == 0 {
                 rest.push(*edge)?;
             }
         }
@@ -259,21 +270,16 @@ fn all_units(reach: Reach, by: i64, each: i32) -> Option<(i32, Linear)> {
     Some((each, all))
 }
 
-/// The lesser of two moves one way.
-fn slower(by: i64, more: i64) -> Option<i64> {
-    if more == 0 {
-        return Some(by);
+/// The lesser of two moves one way, but for none; none where one goes the other way.
+fn slower(by: Option<i64>, more: i64) -> Option<i64> {
+    let by = by?;
+    if more < 0 {
+        return None;
     }
-    if by == 0 {
-        return Some(more);
-    }
-    if by > 0 && more > 0 {
-        return Some(by.min(more));
-    }
-    if by < 0 && more < 0 {
+    if by == 0 || more == 0 {
         return Some(by.max(more));
     }
-    None
+    Some(by.min(more))
 }
 
 /// The one of two that is less at the longest texts.

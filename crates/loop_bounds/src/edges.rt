@@ -105,6 +105,15 @@ impl Slots {
         }
     }
 
+    /// Adds where an edge leads from a member. Whether that is new.
+    fn follow(&mut self, from: usize, to: usize) -> bool {
+        let is_new = self.has(from) && !self.has(to) && to < self.len();
+        if is_new {
+            self.add(to);
+        }
+        is_new
+    }
+
     pub(crate) fn remove(&mut self, slot: usize) {
         if let Some(member) = self.members.get_mut(slot) {
             *member = false;
@@ -112,19 +121,18 @@ impl Slots {
     }
 }
 
-/// Adds what one pass over the edges reaches. Whether anything is new.
+/// Adds what one pass over the edges reaches, from the last edge on where they are followed back, since most lead to a
+/// later slot. Whether anything is new.
 fn extend(reached: &mut Slots, edges: &[Edge], is_forward: bool) -> bool {
     let mut grew = false;
-    for edge in edges {
-        let (from, to) = if is_forward {
-            (edge.from, edge.to)
+    for number in 0..edges.len() {
+        grew |= if is_forward {
+            let edge = edges[number];
+            reached.follow(edge.from, edge.to)
         } else {
-            (edge.to, edge.from)
+            let edge = edges[edges.len() - 1 - number];
+            reached.follow(edge.to, edge.from)
         };
-        if reached.has(from) && !reached.has(to) {
-            reached.add(to);
-            grew = true;
-        }
     }
     grew
 }

@@ -8,8 +8,10 @@ use abstract_state::state::AbsState;
 use bpf_words::words::Words;
 use label_potentials::counted::{counted, held};
 use label_potentials::potential::{Base, Holder};
-use potential_edges::source::source_of;
+use potential_edges::ahead::ahead_of;
+use potential_edges::source::{Source, source_of};
 use std::alloc::{AllocError, Global};
+use tracked_state::state::TrackedState;
 
 /// How many holders there are: eleven registers, and 64 slots of the stack.
 pub(crate) const HOLDERS: u8 = 75;
@@ -19,6 +21,13 @@ pub(crate) fn holder_at(place: u8) -> Holder {
         Holder::Register(place)
     } else {
         Holder::StackSlot(place - 11)
+    }
+}
+
+fn tracked_at(states: States<'_>, slot: usize) -> Option<&TrackedState> {
+    match states.get(slot) {
+        Some(Some(state)) => Some(state),
+        _ => None,
     }
 }
 
@@ -44,14 +53,6 @@ pub(crate) fn base_of(state: &AbsState, holder: Holder) -> Option<Base> {
 pub(crate) fn value_at(states: States<'_>, slot: usize, holder: Holder) -> Option<Quantity> {
     let state = state_at(states, slot)?;
     counted(state, holder, base_of(state, holder)?)
-}
-
-fn is_same_holder(one: Holder, other: Holder) -> bool {
-    match (one, other) {
-        (Holder::Register(one), Holder::Register(other)) => one == other,
-        (Holder::StackSlot(one), Holder::StackSlot(other)) => one == other,
-        _ => false,
-    }
 }
 
 /// Where one value is held, at each slot of a loop.
@@ -83,13 +84,8 @@ impl Held {
     }
 }
 
-/// What is held behind an edge, before it: a holder, and how much is added.
-fn source(
-    words: &Words<'_>,
-    states: States<'_>,
-    edge: &Edge,
-    behind: Holder,
-) -> Option<(Holder, i64)> {
+/// What is held behind an edge, before it.
+fn source(words: &Words<'_>, states: States<'_>, edge: &Edge, behind: Holder) -> Option<Source> {
     if edge.from >= words.len() {
         return None;
     }
@@ -97,8 +93,7 @@ fn source(
         return None;
     };
     let state = state_at(states, edge.from)?;
-    let source = source_of(state, &insn, behind)?;
-    Some((source.holder, source.more))
+    source_of(state, &insn, behind)
 }
 
 /// Goes back over each edge once. Whether a slot is new.
@@ -111,7 +106,7 @@ fn go_back(words: &Words<'_>, states: States<'_>, edges: &[Edge], held: &mut Hel
         if held.at(edge.from).is_some() {
             continue;
         }
-        let (holder, _more) = source(words, states, edge, behind)?;
+        let holder = source(words, states, edge, behind)?.holder;
         let _value = value_at(states, edge.from, holder)?;
         held.set(edge.from, holder);
         grew = true;
@@ -143,19 +138,43 @@ pub(crate) fn follow_back(
     Ok(Some(held))
 }
 
-/// How much the value grows on an edge.
+/// Between which numbers lies how much the value grows on an edge.
+#[derive(Clone, Copy)]
+pub(crate) struct Moves {
+    pub low: i64,
+    pub high: i64,
+}
+
+fn is_same_base(one: Base, other: Base) -> bool {
+    match (one, other) {
+        (Base::Zero, Base::Zero) => true,
+        (Base::Text, Base::Text) => true,
+        (Base::Link, Base::Link) => true,
+        _ => false,
+    }
+}
+
+/// How much the value grows on an edge; where it is another holder's that goes on there, this one may be known to be
+/// ahead of it.
 pub(crate) fn growth(
     words: &Words<'_>,
     states: States<'_>,
     edge: &Edge,
     held: &Held,
-) -> Option<i64> {
-    let (holder, more) = source(words, states, edge, held.at(edge.to)?)?;
-    if is_same_holder(holder, held.at(edge.from)?) {
-        Some(more)
-    } else {
-        None
+) -> Option<Moves> {
+    let before = held.at(edge.from)?;
+    let behind = held.at(edge.to)?;
+    let base = base_of(state_at(states, edge.from)?, before)?;
+    if !is_same_base(base, base_of(state_at(states, edge.to)?, behind)?) {
+        return None;
     }
+    let from = source(words, states, edge, behind)?;
+    let ahead = ahead_of(tracked_at(states, edge.from)?, before, from.holder)?;
+    let ahead = i64::try_from(ahead).ok()?;
+    Some(Moves {
+        low: from.low.checked_add(ahead)?,
+        high: from.high.checked_add(ahead)?,
+    })
 }
 
 /// What is known of a value at all slots of a loop together.

@@ -13,6 +13,7 @@ use Rattle.tracked_state.specs.declared.state.TrackedState.{TrackedState}
 use Rattle.tracked_state.specs.Tracked.{tracked_of}
 use Rattle.loop_states.specs.Contained.{ContainsInLoop}
 use Rattle.loop_states.specs.Within.{IsWithinInLoop}
+use Rattle.loop_states.proofs.Bearing.{contains_tracked}
 use Rattle.potential_edges.specs.Edges.{FallsBy, Falls}
 use Rattle.loop_check.specs.declared.label.Label.{Label}
 use Rattle.loop_check.specs.Labels.{labelled, labels_of}
@@ -27,7 +28,7 @@ same_pos m n e = cc
 -- ---- a label that is entered
 pub enters_by : (from : Label) (insn : Insn) (behind : TrackedState) (label : Label)
     → IsWithinInLoop (tracked_of behind) (tracked_of label.state)
-    → FallsBy from.state.state insn behind.state from.potential label.potential
+    → FallsBy from.state insn behind.state from.potential label.potential
     → Enters loop_rules from insn behind label
 enters_by from insn behind label within falls = record {
   widens = record { states = within; potentials = refl };
@@ -40,17 +41,18 @@ is_entered_within from insn behind label enters = enters.widens.states
 
 pub is_entered_falling : (from : Label) (insn : Insn) (behind : TrackedState) (label : Label)
     → Enters loop_rules from insn behind label
-    → FallsBy from.state.state insn behind.state from.potential label.potential
+    → FallsBy from.state insn behind.state from.potential label.potential
 is_entered_falling from insn behind label enters = enters.falls.falls
 
 pub enters_soundly : (from : Label) (insn : Insn) (behind : TrackedState) (label : Label)
     → ((lengths : Lengths) (s : State) → ContainsInLoop behind lengths s → ContainsInLoop label.state lengths s)
-    → Falls from.state.state insn behind.state (potential_of from.potential) (potential_of label.potential)
+    → Falls from.state insn behind.state (potential_of from.potential) (potential_of label.potential)
     → Enters meanings from insn behind label
 enters_soundly from insn behind label within falls = record {
   widens = λ bytes s held whole. within (lengths_of (lent bytes whole)) s (held whole);
   falls = λ bytes s next distance span before moves after.
-      falls (lent bytes span) s next distance (before span).state moves (after span).state;
+      falls (lent bytes span) s next distance
+      (contains_tracked from.state (lengths_of (lent bytes span)) s (before span)) moves (after span).state;
 }
 
 -- ---- an edge to a slot

@@ -89,7 +89,7 @@ pub record IsLabelPositive (label : Label) (p : law.Potential) : Type 0 where
 pub record LabelFalls (label : Label) (insn : Insn) (behind : Label) (p q : law.Potential) : Type 0 where
   pub first : p ≡ potential_of label.potential
   pub second : q ≡ potential_of behind.potential
-  pub falls : FallsBy label.state.state insn behind.state.state label.potential behind.potential
+  pub falls : FallsBy label.state insn behind.state.state label.potential behind.potential
 
 abbrev pub loop_rules : Rules Label
 loop_rules = record {

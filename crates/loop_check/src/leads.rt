@@ -22,7 +22,7 @@ fn enter(from: &Label, insn: &Insn, behind: &TrackedState, label: &Label) -> Res
         return Err(LabelFault::NotContained);
     }
     if !falls(
-        &from.state.state,
+        &from.state,
         insn,
         &behind.state,
         &from.potential,

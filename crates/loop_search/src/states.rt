@@ -19,7 +19,10 @@ use tracked_state::state::TrackedState;
 use tracked_state::stop::Stop;
 
 /// How many slots a search visits at most.
-pub const MOST_VISITS: u32 = 1 << 16;
+pub const MOST_VISITS: u32 = 4_096;
+
+/// How many slots a program has at most that is searched. What is known of one takes some five kilobytes.
+pub const MOST_SEARCHED: usize = 1_024;
 
 /// Why a search ends without states.
 #[derive(Clone, Copy)]
@@ -376,6 +379,9 @@ pub fn find_states(
     words: &Words<'_>,
     fine: u8,
 ) -> Result<Vec<Option<Box<TrackedState>>>, SearchError> {
+    if words.len() > MOST_SEARCHED {
+        return Err(SearchError::Limit);
+    }
     let mut search = Search::new(alloc, words, fine)?;
     for _pass in 0..MOST_PASSES {
         if !search.pass(words)? {

@@ -5,6 +5,7 @@ use Rattle.bpf_words.specs.declared.instruction.Comparison.{Comparison}
 use Rattle.bpf_words.specs.declared.instruction.Operand.{Operand}
 use Rattle.abstract_state.specs.declared.refusal.Refusal.{Refusal}
 use Rattle.semantics.specs.Value.{cut}
+use Rattle.abstract_state.specs.Addresses.{answer_of}
 use Rattle.abstract_state.specs.State.{lengths_of}
 use Rattle.tracked_state.specs.declared.state.TrackedState.{TrackedState}
 use Rattle.tracked_state.specs.Tracked.{TrackedSituation, tracked_of}
@@ -13,8 +14,9 @@ use Rattle.tracked_state.specs.Rules as plain
 use Rattle.loop_states.specs.declared.sharper.Sharper.{Sharper}
 use Rattle.loop_states.specs.declared.sharper.Sharper.TheVariants.{Never, Where}
 use Rattle.loop_states.specs.Contained.{EdgeInLoop}
-use Rattle.loop_states.specs.Rules.{edge_along, ways_from, sharper_ways, branched}
+use Rattle.loop_states.specs.Rules.{edge_along, ways_from, ways_across, sharper_ways, branched}
 use Rattle.loop_states.specs.Sharper.{sharper_in}
+use Rattle.loop_states.specs.Across.{edge_across}
 use Rattle.loop_states.proofs.Sharpening.{Told, told}
 
 pub no_run : (a : TrackedState) (width : Width) (c : Comparison) (left : ℕ) (right : Operand) (taken : Bool) (edge : Option TrackedState) (sharper : Sharper) → sharper ≡ Never → sharper ≡ sharper_in width c left right taken (tracked_of a) → EdgeInLoop a width c left right taken edge → EdgeInLoop a width c left right taken None
@@ -27,8 +29,8 @@ run_where a width c other left right taken edge sharper is same goes = λ span s
     let (m, (n, one, two, within)) = goes span s held in
     (m, (n, one, two, λ h. within (subst (λ (x : Sharper). Told x width (cut width m) (cut width n)) (sym same ∙ is) (told a width c left right taken (lengths_of span) s m n held one two h))))
 
-pub both_are : (width : Width) (c : Comparison) (left : ℕ) (right : Operand) (t : TrackedSituation) (w : TrackedWays) (taken untaken : Option TrackedSituation) (first second : Sharper) → plain.branched width c left right t ≡ Ok w → first ≡ sharper_in width c left right true t → second ≡ sharper_in width c left right false t → edge_along width left right t first w.taken ≡ Ok taken → edge_along width left right t second w.untaken ≡ Ok untaken → branched width c left right t ≡ Ok (record { taken = taken; untaken = untaken })
+pub both_are : (width : Width) (c : Comparison) (left : ℕ) (right : Operand) (t : TrackedSituation) (w : TrackedWays) (taken untaken : Option TrackedSituation) (first second : Sharper) → plain.branched width c left right t ≡ Ok w → first ≡ sharper_in width c left right true t → second ≡ sharper_in width c left right false t → edge_along width left right t first w.taken ≡ Ok taken → edge_along width left right t second w.untaken ≡ Ok untaken → branched width c left right t ≡ Ok (record { taken = edge_across left right t.marking taken; untaken = edge_across left right t.marking untaken })
 both_are width c left right t w taken untaken first second is one two goes other =
-    ap (sharper_ways width c left right t) is
-    ∙ ap (λ (r : Result (Option TrackedSituation) Refusal). ways_from r (edge_along width left right t (sharper_in width c left right false t) w.untaken)) (ap (λ (x : Sharper). edge_along width left right t x w.taken) (sym one) ∙ goes)
-    ∙ ap (λ (r : Result (Option TrackedSituation) Refusal). ways_from (Ok taken) r) (ap (λ (x : Sharper). edge_along width left right t x w.untaken) (sym two) ∙ other)
+    ap (λ (r : Result TrackedWays Refusal). answer_of (ways_across left right t.marking) (sharper_ways width c left right t r)) is
+    ∙ ap (λ (r : Result (Option TrackedSituation) Refusal). answer_of (ways_across left right t.marking) (ways_from r (edge_along width left right t (sharper_in width c left right false t) w.untaken))) (ap (λ (x : Sharper). edge_along width left right t x w.taken) (sym one) ∙ goes)
+    ∙ ap (λ (r : Result (Option TrackedSituation) Refusal). answer_of (ways_across left right t.marking) (ways_from (Ok taken) r)) (ap (λ (x : Sharper). edge_along width left right t x w.untaken) (sym two) ∙ other)

@@ -3,3 +3,4 @@ pub mod Landing
 pub mod Ahead
 pub mod Sharpening
 pub mod Edges
+pub mod ToldAs

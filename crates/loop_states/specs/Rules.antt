@@ -1,6 +1,6 @@
 -- What is known behind an instruction of a program that may loop: what the third profile's rules say, but that marks
--- name the two lengths, and no value of the last time that the slot ran, and that by a length's name one side of a
--- comparison may be known to be ahead of the other.
+-- name the two lengths, and no value of the last time that the slot ran, that by a length's name one side of a
+-- comparison may be known to be ahead of the other, and that numbers and addresses tell one another.
 use Rattle.std.specs.Prelude.{◌≡◌, ℕ, true, false, Option, None, Result, Ok, Err, option_map}
 use Rattle.bpf_words.specs.declared.instruction.Insn.{Insn}
 use Rattle.bpf_words.specs.declared.instruction.Width.{Width}
@@ -21,6 +21,7 @@ use Rattle.length_marks.specs.Following.{followed}
 use Rattle.loop_states.specs.declared.sharper.Sharper.{Sharper}
 use Rattle.loop_states.specs.declared.sharper.Sharper.TheVariants.{Same, Never, Where}
 use Rattle.loop_states.specs.Sharper.{sharper_in}
+use Rattle.loop_states.specs.Across.{edge_across}
 
 abbrev pub marking_behind : ℕ → Insn → TrackedSituation → Option Marking
 marking_behind at insn t = option_map (followed at insn t.situation) t.marking
@@ -53,9 +54,17 @@ sharper_ways width comparison left right t (Ok w) =
     (edge_along width left right t (sharper_in width comparison left right false t) w.untaken)
 sharper_ways width comparison left right t (Err refusal) = Err refusal
 
+-- ---- and on each edge the sides tell those of the other kind
+abbrev pub ways_across : ℕ → Operand → Option Marking → TrackedWays → TrackedWays
+ways_across left right marking w = record {
+  taken = edge_across left right marking w.taken;
+  untaken = edge_across left right marking w.untaken;
+}
+
 abbrev pub branched : Width → Comparison → ℕ → Operand → TrackedSituation → Result TrackedWays Refusal
 branched width comparison left right t =
-    sharper_ways width comparison left right t (plain.branched width comparison left right t)
+    answer_of (ways_across left right t.marking)
+    (sharper_ways width comparison left right t (plain.branched width comparison left right t))
 
 -- the code's answer for an edge is the rule's, unless there is no memory for its marks
 abbrev pub AnswersEdge : Result (Option TrackedSituation) Refusal → Result (Option TrackedState) Stop → Type 0

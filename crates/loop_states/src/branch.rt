@@ -8,6 +8,7 @@ ghost use Rattle.loop_states.specs.Rules.{AnswersEdge};
 ghost use Rattle.loop_states.specs.Rules as rules;
 ghost use Rattle.loop_states.specs.Sharper.{sharper_in};
 
+use crate::across::tell_across;
 use crate::sharper::{Sharper, sharper_edge};
 use bpf_words::instruction::{Comparison, Operand, Width};
 use bpf_words::register::Register;
@@ -44,7 +45,7 @@ fn edge_along(
 }
 
 /// The states after a comparison that holds, and after one that doesn't. Where one side is known to be ahead of the
-/// other, the comparison tells more.
+/// other, the comparison tells more. What it tells of a number it tells of the addresses with that offset too.
 pub fn branch(
     state: &TrackedState,
     alloc: Global,
@@ -76,5 +77,8 @@ pub fn branch(
         right,
         edges.untaken,
     )?;
-    Ok(TrackedEdges { taken, untaken })
+    Ok(TrackedEdges {
+        taken: tell_across(&state.copies, taken, left, right),
+        untaken: tell_across(&state.copies, untaken, left, right),
+    })
 }

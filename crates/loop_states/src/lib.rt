@@ -3,6 +3,7 @@
 //! run may meet again. Each call keeps the machine states that it contains: `entry`, `step`, `branch`, `is_within`.
 #![tactic(auto)]
 
+mod across;
 pub mod branch;
 mod leads;
 pub mod sharper;

@@ -32,6 +32,36 @@ const INDEX: [u8; 80] = [
     0x95, 0, 0, 0, 0, 0, 0, 0, // exit
 ];
 
+/// `r2 = text; r3 = end; r0 = 0`, and then as long as r2 is less than the end: `r2 += *(u8 *)r2 + 1`.
+const RECORDS: [u8; 72] = [
+    0x79, 0x12, 0, 0, 0, 0, 0, 0, // r2 = *(u64 *)(r1 + 0)
+    0x79, 0x13, 8, 0, 0, 0, 0, 0, // r3 = *(u64 *)(r1 + 8)
+    0xb7, 0, 0, 0, 0, 0, 0, 0, // r0 = 0
+    0x3d, 0x32, 4, 0, 0, 0, 0, 0, // if r2 >= r3 goto +4
+    0x71, 0x24, 0, 0, 0, 0, 0, 0, // r4 = *(u8 *)(r2 + 0)
+    0x07, 0x04, 0, 0, 1, 0, 0, 0, // r4 += 1
+    0x0f, 0x42, 0, 0, 0, 0, 0, 0, // r2 += r4
+    0x05, 0, 0xfb, 0xff, 0, 0, 0, 0, // goto -5
+    0x95, 0, 0, 0, 0, 0, 0, 0, // exit
+];
+
+/// Counts lines: r1 goes on within a line, r2 keeps a copy, from which the next line begins.
+const LINES: [u8; 104] = [
+    0x79, 0x12, 0, 0, 0, 0, 0, 0, // r2 = *(u64 *)(r1 + 0)
+    0x79, 0x13, 8, 0, 0, 0, 0, 0, // r3 = *(u64 *)(r1 + 8)
+    0xb7, 0, 0, 0, 0, 0, 0, 0, // r0 = 0
+    0x3d, 0x32, 8, 0, 0, 0, 0, 0, // if r2 >= r3 goto +8
+    0xbf, 0x21, 0, 0, 0, 0, 0, 0, // r1 = r2
+    0xbd, 0x13, 6, 0, 0, 0, 0, 0, // if r3 <= r1 goto +6
+    0x07, 0x01, 0, 0, 1, 0, 0, 0, // r1 += 1
+    0xbf, 0x12, 0, 0, 0, 0, 0, 0, // r2 = r1
+    0x71, 0x14, 0xff, 0xff, 0, 0, 0, 0, // r4 = *(u8 *)(r1 - 1)
+    0x55, 0x04, 0xfb, 0xff, 10, 0, 0, 0, // if r4 != 10 goto -5
+    0x07, 0, 0, 0, 1, 0, 0, 0, // r0 += 1
+    0x2d, 0x13, 0xf8, 0xff, 0, 0, 0, 0, // if r3 > r1 goto -8
+    0x95, 0, 0, 0, 0, 0, 0, 0, // exit
+];
+
 /// `r0 = 0; goto -1`
 const FOR_EVER: [u8; 24] = [
     0xb7, 0, 0, 0, 0, 0, 0, 0, // r0 = 0
@@ -73,6 +103,22 @@ fn a_scan_of_the_text_is_accepted(rt: HostRuntime) -> Result<(), Fail> {
     // of n bytes a run takes 5 + 4 * n steps, so that no bound is less, and one that is a turn more is loose
     assert_eq!(rt; (per_byte, per_link_byte), (4, 0));
     assert!(rt; constant >= 5 && constant <= 9);
+    Ok(())
+}
+
+#[test]
+fn steps_of_several_lengths_are_counted_as_the_shortest(rt: HostRuntime) -> Result<(), Fail> {
+    let words = Words::new(&RECORDS)?;
+    let found = numbers(&verify_loops(rt.alloc(), &words));
+    assert_eq!(rt; found, Some((5_242_888, 0, 0)));
+    Ok(())
+}
+
+#[test]
+fn a_value_and_its_copy_are_one(rt: HostRuntime) -> Result<(), Fail> {
+    let words = Words::new(&LINES)?;
+    let found = numbers(&verify_loops(rt.alloc(), &words));
+    assert_eq!(rt; found, Some((8, 8, 0)));
     Ok(())
 }
 

@@ -113,6 +113,7 @@ pub fn verify_loops(alloc: Global, words: &Words<'_>) -> Result<Bound, LoopError
     match verify_at(alloc, words, COARSE) {
         Ok(bound) => Ok(bound),
         Err(LoopError::OutOfMemory) => Err(LoopError::OutOfMemory),
+        Err(LoopError::SearchLimit) => Err(LoopError::SearchLimit),
         Err(_) => verify_at(alloc, words, FINE),
     }
 }

@@ -1,5 +1,5 @@
 -- Products of whole numbers.
-use Rattle.std.proofs.Common.{◌≡◌, ℕ, zero, suc, ℤ, pos, negsuc, ◌*◌, ◌≤◌, ◌+ℤ◌, ◌-ℤ◌, ◌*ℤ◌, ◌≤ℤ◌, ◌<ℤ◌, sym, ap, ◌∙◌, arith}
+use Rattle.std.proofs.Common.{◌≡◌, ℕ, zero, suc, ℤ, pos, negsuc, ◌*◌, ◌≤◌, ◌+ℤ◌, ◌-ℤ◌, ◌*ℤ◌, ◌≤ℤ◌, ◌<ℤ◌, unsigned_abs, sym, ap, ◌∙◌, arith}
 use Rattle.std.proofs.lemmas.Int.{ints}
 use Rattle.std.proofs.Math.IntN.{zero-*ℤ, suc_ℤ-*ℤ, pred_ℤ-*ℤ, *ℤ_comm}
 use Rattle.std.proofs.Math.Nat.{mul-le-mul_left}
@@ -67,3 +67,31 @@ pub falls : (weight : ℤ) (low high : ℕ) → weight <ℤ pos 0 → low ≤ hi
 falls (pos n) low high negative ordered = absurd (omega (arith, ints))
 falls (negsuc n) low high negative ordered =
     let more : suc n * low ≤ suc n * high = mul-le-mul_left (suc n) ordered in omega (arith, ints)
+
+-- the same of whole numbers
+times_none : (weight : ℤ) → weight *ℤ pos 0 ≡ pos 0
+times_none weight = *ℤ_comm weight (pos 0) ∙ zero-*ℤ weight
+
+no_less : (one other more none : ℤ) → other ≡ one +ℤ more → none ≡ pos 0 → none ≤ℤ more → one ≤ℤ other
+no_less one other more none e f h = omega (arith, ints)
+
+no_more : (one other more none : ℤ) → other ≡ one +ℤ more → none ≡ pos 0 → more ≤ℤ none → other ≤ℤ one
+no_more one other more none e f h = omega (arith, ints)
+
+apart_by : (x y : ℤ) → x ≤ℤ y → y ≡ x +ℤ pos (unsigned_abs (y -ℤ x))
+apart_by x y h = omega (arith, ints)
+
+times_apart : (weight x y : ℤ) → x ≤ℤ y
+    → weight *ℤ y ≡ weight *ℤ x +ℤ weight *ℤ pos (unsigned_abs (y -ℤ x))
+times_apart weight x y h =
+    ap (λ z. weight *ℤ z) (apart_by x y h) ∙ spread weight x (pos (unsigned_abs (y -ℤ x)))
+
+pub rises_by : (weight x y : ℤ) → pos 0 ≤ℤ weight → x ≤ℤ y → (weight *ℤ x) ≤ℤ (weight *ℤ y)
+rises_by weight x y natural h =
+    no_less (weight *ℤ x) (weight *ℤ y) (weight *ℤ pos (unsigned_abs (y -ℤ x))) (weight *ℤ pos 0)
+    (times_apart weight x y h) (times_none weight) (rises weight 0 (unsigned_abs (y -ℤ x)) natural (omega arith))
+
+pub falls_by : (weight x y : ℤ) → weight <ℤ pos 0 → x ≤ℤ y → (weight *ℤ y) ≤ℤ (weight *ℤ x)
+falls_by weight x y negative h =
+    no_more (weight *ℤ x) (weight *ℤ y) (weight *ℤ pos (unsigned_abs (y -ℤ x))) (weight *ℤ pos 0)
+    (times_apart weight x y h) (times_none weight) (falls weight 0 (unsigned_abs (y -ℤ x)) negative (omega arith))

@@ -1,5 +1,5 @@
 -- What terms before an edge and behind it leave.
-use Rattle.std.proofs.Common.{◌≡◌, ◌↔◌, ℕ, ℤ, pos, negsuc, ◌+◌, ◌-◌, ◌*◌, ◌^◌, ◌<◌, ◌≤◌, ◌+ℤ◌, ◌-ℤ◌, ◌*ℤ◌, ◌≤ℤ◌, ◌<ℤ◌, int_le, ◌&&◌, cond, Bool, true, false, List, [], ◌∷◌, ◌++◌, length, get_or, set, take, map, Option, Some, None, option_map, option_and_then, unsigned_abs, FitsSigned, to_z, of_z, w32, w64, refl, sym, ap, subst, ◌∙◌, arith}
+use Rattle.std.proofs.Common.{◌≡◌, ◌↔◌, ℕ, ℤ, pos, negsuc, ◌+◌, ◌-◌, ◌*◌, ◌^◌, ◌<◌, ◌≤◌, ◌+ℤ◌, ◌-ℤ◌, ◌*ℤ◌, ◌≤ℤ◌, ◌<ℤ◌, int_le, int_lt, ◌&&◌, cond, Bool, true, false, List, [], ◌∷◌, ◌++◌, length, get_or, set, take, map, Option, Some, None, option_map, option_and_then, unsigned_abs, FitsSigned, to_z, of_z, w32, w64, refl, sym, ap, subst, ◌∙◌, arith}
 use Rattle.std.proofs.lemmas.Int.{ints}
 use Rattle.std.proofs.lemmas.List.{length-set, map-append, take_more, take_more_set, take_all}
 use Rattle.std.proofs.lemmas.Slice.Zip.{length-zip, get_or-zip}
@@ -16,6 +16,9 @@ use Rattle.loop_labels.specs.Potential as labels
 use Rattle.abstract_state.specs.declared.state.AbsState.{AbsState}
 use Rattle.abstract_state.specs.Lent.{Lengths}
 use Rattle.abstract_state.specs.State.{Span, lengths_of, Contains}
+use Rattle.value_marks.specs.Copies.{Bear, kept}
+use Rattle.tracked_state.specs.declared.state.TrackedState.{TrackedState}
+use Rattle.tracked_state.specs.Tracked.{ContainsTracked}
 use Rattle.label_potentials.specs.declared.potential.Holder.{Holder}
 use Rattle.label_potentials.specs.declared.potential.Holder.TheVariants.{Register, StackSlot}
 use Rattle.label_potentials.specs.declared.potential.Base.{Base}
@@ -26,25 +29,21 @@ use Rattle.potential_edges.specs.declared.source.Source.{Source}
 use Rattle.potential_edges.specs.declared.rest.Rest.{Rest}
 use Rattle.potential_edges.specs.declared.edges.Difference.{Difference}
 use Rattle.label_potentials.specs.Views.{holder_of, base_of, potential_of, weight_at, weights_at, left_at}
-use Rattle.potential_edges.specs.Same.{is_holder, is_base}
+use Rattle.potential_edges.specs.Same.{is_base}
 use Rattle.potential_edges.specs.Leasts.{least_in}
 use Rattle.label_potentials.specs.Weights.{weighed_in}
 use Rattle.potential_edges.specs.Sources.{source_in}
-use Rattle.potential_edges.specs.Edges.{more_of, more_in, rest, in_word, rest_together, rest_apart, rest_by, rest_in, all_more, form_with, IsDifference, FallsBy, Falls}
+use Rattle.potential_edges.specs.Ahead.{ahead_in}
+use Rattle.potential_edges.specs.Edges.{lightest_more, more_from, more_in, rest, in_word, rest_together, rest_apart, rest_by, rest_in, all_more, form_with, IsDifference, FallsBy, Falls}
 use Rattle.potential_edges.proofs.AtLeast.{least_sound}
-use Rattle.potential_edges.proofs.Products.{spread, lessened_weight}
+use Rattle.potential_edges.proofs.Products.{spread, lessened_weight, rises_by, falls_by as falls_further}
+use Rattle.potential_edges.proofs.Leads.{IsAheadBy, ahead_sound}
 use Rattle.label_potentials.proofs.Sums.{left_is}
 use Rattle.label_potentials.proofs.Held.{IsWhole}
 use Rattle.label_potentials.proofs.Weighing.{weighed_sound, known_more, none_unknown, one_knowledge, form_from}
-use Rattle.potential_edges.proofs.Sources.{Steps, ComesFrom, WritesOne, source_sound, both_true, same_number}
+use Rattle.potential_edges.proofs.Sources.{Steps, ComesFrom, WritesOne, source_sound}
 
--- ---- the same holder, and the same base
-holder_is : (a b : Holder) → is_holder a b ≡ true → a ≡ b
-holder_is (Register a) (Register b) e = ap (λ (k : ℕ). Register k) (same_number a b e)
-holder_is (Register a) (StackSlot b) e = absurd (cc)
-holder_is (StackSlot a) (Register b) e = absurd (cc)
-holder_is (StackSlot a) (StackSlot b) e = ap (λ (k : ℕ). StackSlot k) (same_number a b e)
-
+-- ---- the same base
 base_is : (a b : Base) → is_base a b ≡ true → a ≡ b
 base_is Zero Zero e = refl
 base_is Zero Text e = absurd (cc)
@@ -60,73 +59,115 @@ base_is Link Link e = refl
 abbrev count_of : State → Holder → Base → ℤ
 count_of s holder base = labels.counted_from (base_of base) (labels.number_in s (holder_of holder))
 
-abbrev CountsMore : AbsState → Insn → Term → Term → ℤ → Type 0
-CountsMore a insn before after more =
-    (span : Span) (s next : State) → Steps a insn span s next
-    → count_of next after.holder after.base ≡ count_of s before.holder before.base +ℤ more
+-- a step on from a state of which the marks are true too
+pub record Goes (a : TrackedState) (insn : Insn) (span : Span) (s next : State) : Type 0 where
+  pub steps : Steps a.state insn span s next
+  pub marks : Bear (kept a.copies) s
 
-more_sound : (a : AbsState) (insn : Insn) (before after : Term) (more : ℤ) → IsWhole a → WritesOne insn
-    → more_in a insn before after ≡ Some more → CountsMore a insn before after more
-more_sound a insn before after more whole one e = by_source (source_in a insn after.holder) refl e
+-- the second term weighs behind at least what it would weigh on what the first counts before, and so much more
+abbrev WeighsMore : TrackedState → Insn → Term → Term → ℤ → Type 0
+WeighsMore a insn before after more =
+    (span : Span) (s next : State) → Goes a insn span s next
+    → (after.weight *ℤ count_of s before.holder before.base +ℤ after.weight *ℤ more) ≤ℤ weight_at next after
+
+heavier : (count ahead by least both next : ℤ) → next ≡ count +ℤ (ahead +ℤ by) → both ≡ ahead +ℤ least → least ≤ℤ by
+    → (count +ℤ both) ≤ℤ next
+heavier count ahead by least both next e f h = omega (arith, ints)
+
+further : (count ahead by source next : ℤ) → next ≡ source +ℤ by → source ≡ count +ℤ ahead
+    → next ≡ count +ℤ (ahead +ℤ by)
+further count ahead by source next e f = omega (arith, ints)
+
+weighs_further : (weight count ahead by least source next : ℤ) → next ≡ source +ℤ by → source ≡ count +ℤ ahead
+    → (weight *ℤ least) ≤ℤ (weight *ℤ by)
+    → (weight *ℤ count +ℤ weight *ℤ (ahead +ℤ least)) ≤ℤ (weight *ℤ next)
+weighs_further weight count ahead by least source next e f h =
+    heavier (weight *ℤ count) (weight *ℤ ahead) (weight *ℤ by) (weight *ℤ least) (weight *ℤ (ahead +ℤ least))
+    (weight *ℤ next)
+    (ap (λ z. weight *ℤ z) (further count ahead by source next e f)
+    ∙ spread weight count (ahead +ℤ by)
+    ∙ ap (λ z. weight *ℤ count +ℤ z) (spread weight ahead by)) (spread weight ahead least) h
+
+lightest_is : (weight by : ℤ) (from : Source) → from.low ≤ℤ by → by ≤ℤ from.high
+    → (weight *ℤ lightest_more weight from) ≤ℤ (weight *ℤ by)
+lightest_is weight by from low high = go (int_lt weight (pos 0)) refl
   where
-    same_counts : (from : Source) → from.holder ≡ before.holder → after.base ≡ before.base → from.more ≡ more
-        → ComesFrom a insn after.holder from → CountsMore a insn before after more
-    same_counts from holder base is comes span s next steps =
-        comes span s next steps (base_of after.base)
-        ∙ ap (λ h. count_of s h after.base +ℤ from.more) holder
-        ∙ ap (λ b. count_of s before.holder b +ℤ from.more) base
-        ∙ ap (λ z. count_of s before.holder before.base +ℤ z) is
+    go : (b : Bool) → int_lt weight (pos 0) ≡ b → (weight *ℤ cond b from.high from.low) ≤ℤ (weight *ℤ by)
+    go true e = let negative : weight <ℤ pos 0 = omega (arith, ints) in falls_further weight by from.high negative high
+    go false e = let natural : pos 0 ≤ℤ weight = omega (arith, ints) in rises_by weight from.low by natural low
 
-    by_test : (from : Source) (b : Bool) → source_in a insn after.holder ≡ Some from
-        → is_holder from.holder before.holder && is_base after.base before.base ≡ b
-        → cond b (Some from.more) None ≡ Some more → CountsMore a insn before after more
-    by_test from true is both f =
-        let parts : (is_holder from.holder before.holder ≡ true) × (is_base after.base before.base ≡ true)
-        = both_true _ _ both in
-        let much : from.more ≡ more = cc in
-        same_counts from (holder_is from.holder before.holder parts.0) (base_is after.base before.base parts.1) much
-        (source_sound a insn after.holder from whole one is)
-    by_test from false is both f = absurd (cc)
+weighs_more : (a : TrackedState) (insn : Insn) (before after : Term) (from : Source) (ahead : ℤ)
+    → after.base ≡ before.base → ComesFrom a.state insn after.holder from → IsAheadBy a before.holder from.holder ahead
+    → WeighsMore a insn before after (ahead +ℤ lightest_more after.weight from)
+weighs_more a insn before after from ahead base comes leads span s next goes =
+    let came = comes span s next goes.steps (base_of after.base) in
+    subst (λ (b : Base). (after.weight *ℤ count_of s before.holder b
+    +ℤ after.weight *ℤ (ahead +ℤ lightest_more after.weight from)) ≤ℤ weight_at next after) base
+    (weighs_further after.weight (count_of s before.holder after.base) ahead came.0 (lightest_more after.weight from)
+    (count_of s from.holder after.base) (count_of next after.holder after.base) came.3
+    (leads (lengths_of span) s goes.steps.before goes.marks (base_of after.base))
+    (lightest_is after.weight came.0 from came.1 came.2))
 
-    by_source : (o : Option Source) → source_in a insn after.holder ≡ o
-        → option_and_then (more_of before after) o ≡ Some more → CountsMore a insn before after more
-    by_source None is f = absurd (cc)
-    by_source (Some from) is f =
-        by_test from (is_holder from.holder before.holder && is_base after.base before.base) is refl f
+more_sound : (a : TrackedState) (insn : Insn) (before after : Term) (more : ℤ) → IsWhole a.state → WritesOne insn
+    → more_in a insn before after ≡ Some more → WeighsMore a insn before after more
+more_sound a insn before after more whole one e = by_base (is_base after.base before.base) refl e
+  where
+    by_ahead : (from : Source) (o : Option ℤ) → after.base ≡ before.base
+        → source_in a.state insn after.holder ≡ Some from → ahead_in a before.holder from.holder ≡ o
+        → option_map (λ ahead. ahead +ℤ lightest_more after.weight from) o ≡ Some more
+        → WeighsMore a insn before after more
+    by_ahead from None base is leads f = absurd (cc)
+    by_ahead from (Some ahead) base is leads f =
+        let same : ahead +ℤ lightest_more after.weight from ≡ more = cc in
+        subst (λ (z : ℤ). WeighsMore a insn before after z) same
+        (weighs_more a insn before after from ahead base (source_sound a.state insn after.holder from whole one is)
+        (ahead_sound a before.holder from.holder ahead whole leads))
 
-abbrev pub Leaves : AbsState → Insn → AbsState → Term → Term → Rest → Type 0
+    by_source : (o : Option Source) → after.base ≡ before.base → source_in a.state insn after.holder ≡ o
+        → option_and_then (more_from a before after) o ≡ Some more → WeighsMore a insn before after more
+    by_source None base is f = absurd (cc)
+    by_source (Some from) base is f = by_ahead from (ahead_in a before.holder from.holder) base is refl f
+
+    by_base : (b : Bool) → is_base after.base before.base ≡ b
+        → cond b (option_and_then (more_from a before after) (source_in a.state insn after.holder)) None ≡ Some more
+        → WeighsMore a insn before after more
+    by_base true same f =
+        by_source (source_in a.state insn after.holder) (base_is after.base before.base same) refl f
+    by_base false same f = absurd (cc)
+
+abbrev pub Leaves : TrackedState → Insn → AbsState → Term → Term → Rest → Type 0
 Leaves a insn behind before after left =
-    (span : Span) (s next : State) → Steps a insn span s next → Contains behind (lengths_of span) next
+    (span : Span) (s next : State) → Goes a insn span s next → Contains behind (lengths_of span) next
     → (x : ℕ) × IsOf left.less (lengths_of span).text (lengths_of span).link x
     × ((weight_at s before -ℤ weight_at next after) ≤ℤ (left.less.weight *ℤ pos x -ℤ left.more))
 
-weights_together : (before other after left more : ℤ) → after ≡ other +ℤ more → left ≡ before -ℤ other
+weights_together : (before other after left more : ℤ) → (other +ℤ more) ≤ℤ after → left ≡ before -ℤ other
     → (before -ℤ after) ≤ℤ (left -ℤ more)
 weights_together before other after left more e f = omega (arith, ints)
 
-leaves_together : (a : AbsState) (insn : Insn) (behind : AbsState) (before after : Term) (more weight : ℤ)
-    (less : Weighed) → IsWhole a → CountsMore a insn before after more → before.weight -ℤ after.weight ≡ weight
-    → weighed_in a (record before { weight = weight }) ≡ Some less
+leaves_together : (a : TrackedState) (insn : Insn) (behind : AbsState) (before after : Term) (more weight : ℤ)
+    (less : Weighed) → IsWhole a.state → WeighsMore a insn before after more → before.weight -ℤ after.weight ≡ weight
+    → weighed_in a.state (record before { weight = weight }) ≡ Some less
     → Leaves a insn behind before after (rest (after.weight *ℤ more) less)
 leaves_together a insn behind before after more weight less whole counts is known span s next steps there =
     let count : ℤ = count_of s before.holder before.base in
-    let x = weighed_sound a (record before { weight = weight }) less whole known (lengths_of span) s steps.before in (
+    let held = steps.steps.before in
+    let x = weighed_sound a.state (record before { weight = weight }) less whole known (lengths_of span) s held in (
       x.0,
       x.1,
       weights_together (weight_at s before) (after.weight *ℤ count) (weight_at next after) (less.weight *ℤ pos x.0)
-          (after.weight *ℤ more)
-          (ap (λ z. after.weight *ℤ z) (counts span s next steps) ∙ spread after.weight count more)
+          (after.weight *ℤ more) (counts span s next steps)
           (x.2 ∙ ap (λ z. z *ℤ count) (sym is) ∙ lessened_weight before.weight after.weight count),
     )
 
 weights_apart : (before after left more : ℤ) → left ≡ before → more ≤ℤ after → (before -ℤ after) ≤ℤ (left -ℤ more)
 weights_apart before after left more e h = omega (arith, ints)
 
-leaves_apart : (a : AbsState) (insn : Insn) (behind : AbsState) (before after : Term) (more : ℤ) (less : Weighed)
-    → IsWhole a → IsWhole behind → weighed_in a before ≡ Some less → least_in behind after ≡ Some more
+leaves_apart : (a : TrackedState) (insn : Insn) (behind : AbsState) (before after : Term) (more : ℤ) (less : Weighed)
+    → IsWhole a.state → IsWhole behind → weighed_in a.state before ≡ Some less → least_in behind after ≡ Some more
     → Leaves a insn behind before after (rest more less)
 leaves_apart a insn behind before after more less whole other known least span s next steps there =
-    let x = weighed_sound a before less whole known (lengths_of span) s steps.before in (
+    let x = weighed_sound a.state before less whole known (lengths_of span) s steps.steps.before in (
       x.0,
       x.1,
       weights_apart (weight_at s before) (weight_at next after) (less.weight *ℤ pos x.0) more x.2
@@ -141,14 +182,14 @@ in_word_is z weight e = go (int_le (negsuc (2 ^ 31 - 1)) z && int_le z (pos (2 ^
     go true f = cc
     go false f = absurd (cc)
 
-together_sound : (a : AbsState) (insn : Insn) (behind : AbsState) (before after : Term) (more : ℤ) (left : Rest)
-    → IsWhole a → CountsMore a insn before after more → rest_together a before after more ≡ Some left
+together_sound : (a : TrackedState) (insn : Insn) (behind : AbsState) (before after : Term) (more : ℤ) (left : Rest)
+    → IsWhole a.state → WeighsMore a insn before after more → rest_together a.state before after more ≡ Some left
     → Leaves a insn behind before after left
 together_sound a insn behind before after more left whole counts e =
     by_weight (in_word (before.weight -ℤ after.weight)) refl e
   where
     by_weighed : (weight : ℤ) (o : Option Weighed) → in_word (before.weight -ℤ after.weight) ≡ Some weight
-        → weighed_in a (record before { weight = weight }) ≡ o
+        → weighed_in a.state (record before { weight = weight }) ≡ o
         → option_map (rest (after.weight *ℤ more)) o ≡ Some left → Leaves a insn behind before after left
     by_weighed weight None is known f = absurd (cc)
     by_weighed weight (Some less) is known f =
@@ -159,16 +200,16 @@ together_sound a insn behind before after more left whole counts e =
 
     by_weight : (o : Option ℤ) → in_word (before.weight -ℤ after.weight) ≡ o
         → option_and_then (λ weight. option_map (rest (after.weight *ℤ more))
-        (weighed_in a (record before { weight = weight }))) o ≡ Some left
+        (weighed_in a.state (record before { weight = weight }))) o ≡ Some left
         → Leaves a insn behind before after left
     by_weight None is f = absurd (cc)
-    by_weight (Some weight) is f = by_weighed weight (weighed_in a (record before { weight = weight })) is refl f
+    by_weight (Some weight) is f = by_weighed weight (weighed_in a.state (record before { weight = weight })) is refl f
 
-apart_sound : (a : AbsState) (insn : Insn) (behind : AbsState) (before after : Term) (left : Rest) → IsWhole a
-    → IsWhole behind → rest_apart a behind before after ≡ Some left → Leaves a insn behind before after left
-apart_sound a insn behind before after left whole other e = by_weighed (weighed_in a before) refl e
+apart_sound : (a : TrackedState) (insn : Insn) (behind : AbsState) (before after : Term) (left : Rest) → IsWhole a.state
+    → IsWhole behind → rest_apart a.state behind before after ≡ Some left → Leaves a insn behind before after left
+apart_sound a insn behind before after left whole other e = by_weighed (weighed_in a.state before) refl e
   where
-    by_least : (less : Weighed) (o : Option ℤ) → weighed_in a before ≡ Some less → least_in behind after ≡ o
+    by_least : (less : Weighed) (o : Option ℤ) → weighed_in a.state before ≡ Some less → least_in behind after ≡ o
         → option_map (λ more. rest more less) o ≡ Some left → Leaves a insn behind before after left
     by_least less None known least f = absurd (cc)
     by_least less (Some more) known least f =
@@ -176,18 +217,18 @@ apart_sound a insn behind before after left whole other e = by_weighed (weighed_
         subst (λ (u : Rest). Leaves a insn behind before after u) same
         (leaves_apart a insn behind before after more less whole other known least)
 
-    by_weighed : (o : Option Weighed) → weighed_in a before ≡ o
+    by_weighed : (o : Option Weighed) → weighed_in a.state before ≡ o
         → option_and_then (λ less. option_map (λ more. rest more less) (least_in behind after)) o ≡ Some left
         → Leaves a insn behind before after left
     by_weighed None known f = absurd (cc)
     by_weighed (Some less) known f = by_least less (least_in behind after) known refl f
 
-rest_sound : (a : AbsState) (insn : Insn) (behind : AbsState) (before after : Term) (left : Rest) → IsWhole a
+rest_sound : (a : TrackedState) (insn : Insn) (behind : AbsState) (before after : Term) (left : Rest) → IsWhole a.state
     → IsWhole behind → WritesOne insn → rest_in a insn behind (before, after) ≡ Some left
     → Leaves a insn behind before after left
 rest_sound a insn behind before after left whole other one e = go (more_in a insn before after) refl e
   where
-    go : (o : Option ℤ) → more_in a insn before after ≡ o → rest_by a behind before after o ≡ Some left
+    go : (o : Option ℤ) → more_in a insn before after ≡ o → rest_by a.state behind before after o ≡ Some left
         → Leaves a insn behind before after left
     go None is f = apart_sound a insn behind before after left whole other f
     go (Some more) is f =
@@ -206,10 +247,10 @@ none_left = omega (arith, ints)
 abbrev less_of : List Rest → List Weighed
 less_of rests = map (λ (r : Rest). r.less) rests
 
-all_sound : (a : AbsState) (insn : Insn) (behind : AbsState) (ps qs : List Term) (rests : List Rest) → IsWhole a
-    → IsWhole behind → WritesOne insn → length ps ≡ length qs
+all_sound : (a : TrackedState) (insn : Insn) (behind : AbsState) (ps qs : List Term) (rests : List Rest)
+    → IsWhole a.state → IsWhole behind → WritesOne insn → length ps ≡ length qs
     → map (rest_in a insn behind) (zip ps qs) ≡ map Some rests
-    → (span : Span) (s next : State) → Steps a insn span s next → Contains behind (lengths_of span) next
+    → (span : Span) (s next : State) → Goes a insn span s next → Contains behind (lengths_of span) next
     → (xs : List ℕ) × AreOf (less_of rests) (lengths_of span).text (lengths_of span).link xs
     × ((weights_at s ps -ℤ weights_at next qs) ≤ℤ (values.all_weighed (less_of rests) xs -ℤ all_more rests))
 unfolding AreOf values.all_weighed weights_at all_more
@@ -238,18 +279,19 @@ fallen pc pb pl qc qb ql before after constant b l all more e f g h enough = ome
 raised : (a b c : ℤ) → a ≤ℤ b → b ≤ℤ c → a ≤ℤ c
 raised a b c h i = omega (arith, ints)
 
-pub falls_sound : (a : AbsState) (insn : Insn) (behind : AbsState) (p q : Potential) → IsWhole a → IsWhole behind
-    → WritesOne insn → length p.less ≡ length q.less → FallsBy a insn behind p q
+pub falls_sound : (a : TrackedState) (insn : Insn) (behind : AbsState) (p q : Potential) → IsWhole a.state
+    → IsWhole behind → WritesOne insn → length p.less ≡ length q.less → FallsBy a insn behind p q
     → Falls a insn behind (potential_of p) (potential_of q)
 falls_sound a insn behind p q whole other one long is span s next far before goes there =
-    let steps : Steps a insn span s next = record { before = before; far = far; goes = goes } in
+    let steps : Goes a insn span s next
+    = record { steps = record { before = before.state; far = far; goes = goes }; marks = before.copies } in
     let lengths : Lengths = lengths_of span in
     let rests = is.is.rests in
     let xs = all_sound a insn behind p.less q.less rests whole other one long is.is.known span s next steps there in
-    let are : AreLengths a.bounds.text a.bounds.link lengths.text lengths.link = record {
-      text_long = before.bounds.text;
+    let are : AreLengths a.state.bounds.text a.state.bounds.link lengths.text lengths.link = record {
+      text_long = before.state.bounds.text;
       text_short = lengths.short;
-      link_long = before.bounds.link;
+      link_long = before.state.bounds.link;
       link_short = lengths.link_short;
     } in
     let form = form_with p q is.difference.constant in
@@ -257,7 +299,7 @@ falls_sound a insn behind p q whole other one long is span s next far before goe
     = subst (λ (l : List Weighed). AreOf l lengths.text lengths.link xs.0) (sym is.is.weighed) xs.1 in
     let enough : pos 1 ≤ℤ values.value_at form is.difference.weighed lengths.text lengths.link xs.0
     = raised (pos 1) _ _ is.enough
-    (sound form is.difference.weighed a.bounds.text a.bounds.link lengths.text lengths.link xs.0 are of) in
+    (sound form is.difference.weighed a.state.bounds.text a.state.bounds.link lengths.text lengths.link xs.0 are of) in
     subst (λ z. z <ℤ labels.potential_at span.bytes s (potential_of p)) (sym (left_is span.bytes next q))
     (subst (λ z. left_at span.bytes next q <ℤ z) (sym (left_is span.bytes s p))
     (fallen p.constant (p.per_byte *ℤ pos lengths.text) (p.per_link_byte *ℤ pos lengths.link) q.constant
@@ -269,7 +311,7 @@ falls_sound a insn behind p q whole other one long is span s next far before goe
     ≤ℤ (values.all_weighed l xs.0 -ℤ all_more rests)) (sym is.is.weighed) xs.2) enough))
 
 -- ---- there is but one difference
-pub one_difference : (a : AbsState) (insn : Insn) (behind : AbsState) (p q : Potential) (b c : Difference)
+pub one_difference : (a : TrackedState) (insn : Insn) (behind : AbsState) (p q : Potential) (b c : Difference)
     → IsDifference a insn behind p q b → IsDifference a insn behind p q c
     → (b.constant ≡ c.constant) × (b.weighed ≡ c.weighed)
 one_difference a insn behind p q b c is other =
@@ -287,13 +329,13 @@ form_with_is p q given constant per_byte per_link_byte e f g =
     ∙ ap (λ z. form_from given z per_link_byte) f
     ∙ ap (λ z. form_from given (p.per_byte -ℤ q.per_byte) z) g
 
-abbrev IsEnough : AbsState → Potential → Potential → ℤ → List Weighed → Type 0
+abbrev IsEnough : TrackedState → Potential → Potential → ℤ → List Weighed → Type 0
 IsEnough a p q constant weighed =
-    pos 1 ≤ℤ least_of (form_with p q constant) weighed a.bounds.text a.bounds.link
+    pos 1 ≤ℤ least_of (form_with p q constant) weighed a.state.bounds.text a.state.bounds.link
 
-pub falls_by : (a : AbsState) (insn : Insn) (behind : AbsState) (p q : Potential) (d : Difference) (Yes : Type 0)
+pub falls_by : (a : TrackedState) (insn : Insn) (behind : AbsState) (p q : Potential) (d : Difference) (Yes : Type 0)
     → IsDifference a insn behind p q d
-    → (Yes ↔ (pos 1 ≤ℤ least_of (form_with p q d.constant) d.weighed a.bounds.text a.bounds.link))
+    → (Yes ↔ (pos 1 ≤ℤ least_of (form_with p q d.constant) d.weighed a.state.bounds.text a.state.bounds.link))
     → Yes ↔ FallsBy a insn behind p q
 falls_by a insn behind p q d Yes known is = (
   λ (yes : Yes). record { difference = d; is = known; enough = is.0 yes },
@@ -304,19 +346,19 @@ falls_by a insn behind p q d Yes known is = (
 )
 
 -- ---- the first terms
-pub record Reached (a : AbsState) (insn : Insn) (behind : AbsState) (p q : Potential) (n : ℕ) (constant : ℤ)
+pub record Reached (a : TrackedState) (insn : Insn) (behind : AbsState) (p q : Potential) (n : ℕ) (constant : ℤ)
     (weighed : List Weighed) : Type 0 where
   pub long : length weighed ≡ 8
   pub rests : List Rest
   pub known : map (rest_in a insn behind) (take n (zip p.less q.less)) ≡ map Some rests
   pub sum : constant ≡ (p.constant -ℤ q.constant) +ℤ all_more rests
   pub less : take n weighed ≡ less_of rests
-  pub small : unsigned_abs constant ≤ 2 ^ 65 + n * 2 ^ 95
+  pub small : unsigned_abs constant ≤ 2 ^ 65 + n * 2 ^ 96
 
 and_none : (z : ℤ) → z ≡ z +ℤ pos 0
 and_none z = omega (arith, ints)
 
-pub reached_none : (a : AbsState) (insn : Insn) (behind : AbsState) (p q : Potential) (constant : ℤ)
+pub reached_none : (a : TrackedState) (insn : Insn) (behind : AbsState) (p q : Potential) (constant : ℤ)
     (weighed : List Weighed) → length weighed ≡ 8 → constant ≡ p.constant -ℤ q.constant
     → unsigned_abs constant ≤ 2 ^ 65 → Reached a insn behind p q 0 constant weighed
 unfolding all_more
@@ -345,8 +387,8 @@ sum_last : (constant start rests more next all : ℤ) → constant ≡ start +�
     → all ≡ rests +ℤ more → next ≡ start +ℤ all
 sum_last constant start rests more next all e f g = omega (arith, ints)
 
-small_last : (constant more next : ℤ) (n : ℕ) → unsigned_abs constant ≤ 2 ^ 65 + n * 2 ^ 95 → unsigned_abs more ≤ 2 ^ 95
-    → next ≡ constant +ℤ more → unsigned_abs next ≤ 2 ^ 65 + (n + 1) * 2 ^ 95
+small_last : (constant more next : ℤ) (n : ℕ) → unsigned_abs constant ≤ 2 ^ 65 + n * 2 ^ 96 → unsigned_abs more ≤ 2 ^ 96
+    → next ≡ constant +ℤ more → unsigned_abs next ≤ 2 ^ 65 + (n + 1) * 2 ^ 96
 small_last constant more next n h i e = omega (arith, ints)
 
 -- as the code has them
@@ -357,8 +399,8 @@ start_is result one other f g small is = omega (arith, ints)
 pub start_small : (result : ℤ) → unsigned_abs result ≤ 2 ^ 65 → unsigned_abs (to_z w128 (of_z w128 result)) ≤ 2 ^ 65
 start_small result small = omega (arith, ints)
 
-pub sum_fits : (constant more : ℤ) (n : ℕ) → unsigned_abs constant ≤ 2 ^ 65 + n * 2 ^ 95 → n < 8
-    → unsigned_abs more ≤ 2 ^ 95 → to_z w128 (of_z w128 (constant +ℤ to_z w128 (of_z w128 more))) ≡ constant +ℤ more
+pub sum_fits : (constant more : ℤ) (n : ℕ) → unsigned_abs constant ≤ 2 ^ 65 + n * 2 ^ 96 → n < 8
+    → unsigned_abs more ≤ 2 ^ 96 → to_z w128 (of_z w128 (constant +ℤ to_z w128 (of_z w128 more))) ≡ constant +ℤ more
 sum_fits constant more n h few i = omega (arith, ints)
 
 pub less_is : (result one other : ℤ) → FitsSigned w32 one → FitsSigned w32 other → FitsSigned w64 result
@@ -380,11 +422,11 @@ pair_at p q n d e so few =
     let first = so.first in
     let second = so.second in get_or-zip p.less q.less n (d, e) (omega arith) (omega arith)
 
-pub reached_more : (a : AbsState) (insn : Insn) (behind : AbsState) (p q : Potential) (n : ℕ) (constant next : ℤ)
+pub reached_more : (a : TrackedState) (insn : Insn) (behind : AbsState) (p q : Potential) (n : ℕ) (constant next : ℤ)
     (weighed : List Weighed) (r : Rest) (d e : Term) → AreEight p q → n < 8
     → Reached a insn behind p q n constant weighed
     → rest_in a insn behind (get_or p.less n d, get_or q.less n e) ≡ Some r → next ≡ constant +ℤ r.more
-    → unsigned_abs r.more ≤ 2 ^ 95 → Reached a insn behind p q (n + 1) next (set weighed n r.less)
+    → unsigned_abs r.more ≤ 2 ^ 96 → Reached a insn behind p q (n + 1) next (set weighed n r.less)
 reached_more a insn behind p q n constant next weighed r d e eight few so is sum small =
     let pairs : List (Term × Term) = zip p.less q.less in
     let many : length pairs ≡ 8 = eight_pairs p q eight in
@@ -405,7 +447,7 @@ reached_more a insn behind p q n constant next weighed r d e eight few so is sum
     }
 
 -- a pair of which nothing is known
-pub unreached : (a : AbsState) (insn : Insn) (behind : AbsState) (p q : Potential) (n : ℕ) (d e : Term)
+pub unreached : (a : TrackedState) (insn : Insn) (behind : AbsState) (p q : Potential) (n : ℕ) (d e : Term)
     (rests : List Rest) → AreEight p q → n < 8
     → rest_in a insn behind (get_or p.less n d, get_or q.less n e) ≡ None
     → map (rest_in a insn behind) (zip p.less q.less) ≡ map Some rests → ⊥
@@ -414,8 +456,8 @@ unreached a insn behind p q n d e rests eight few is known =
     none_unknown (Term × Term) Rest (rest_in a insn behind) (zip p.less q.less) rests n (d, e) (omega arith) known
     (ap (rest_in a insn behind) (pair_at p q n d e eight few) ∙ is)
 
-pub reached_all : (a : AbsState) (insn : Insn) (behind : AbsState) (p q : Potential) (n : ℕ) (difference : Difference)
-    → AreEight p q → 8 ≤ n → Reached a insn behind p q n difference.constant difference.weighed
+pub reached_all : (a : TrackedState) (insn : Insn) (behind : AbsState) (p q : Potential) (n : ℕ)
+    (difference : Difference) → AreEight p q → 8 ≤ n → Reached a insn behind p q n difference.constant difference.weighed
     → IsDifference a insn behind p q difference
 reached_all a insn behind p q n difference eight all so =
     let many : length (zip p.less q.less) ≡ 8 = eight_pairs p q eight in

@@ -1,4 +1,5 @@
 pub mod Same
 pub mod Leasts
 pub mod Sources
+pub mod Ahead
 pub mod Edges

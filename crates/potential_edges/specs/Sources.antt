@@ -1,4 +1,5 @@
--- Where what a holder holds behind an instruction comes from: a holder before it, and how much more there is.
+-- Where what a holder holds behind an instruction comes from: a holder before it, and between which numbers lies how
+-- much more there is.
 use Rattle.std.specs.Prelude.{ℕ, ℤ, pos, ◌+◌, ◌^◌, ◌+ℤ◌, ◌-ℤ◌, nat_eq, nat_lt, int_le, int_lt, ◌&&◌, Bool, true, false}
 use Rattle.std.specs.Prelude.{if◌then◌else◌, Option, Some, None, option_and_then}
 use Rattle.bpf_words.specs.declared.instruction.Arithmetic.{Arithmetic}
@@ -21,11 +22,15 @@ use Rattle.label_potentials.specs.declared.potential.Holder.TheVariants.{Registe
 use Rattle.potential_edges.specs.declared.source.Source.{Source}
 use Rattle.label_potentials.specs.Counts.{held_in}
 
+-- exactly so much more
+abbrev pub exactly : Holder → ℤ → Source
+exactly holder more = record { holder = holder; low = more; high = more }
+
 abbrev pub from_register : ℕ → ℤ → Source
-from_register register more = record { holder = Register register; more = more }
+from_register register more = exactly (Register register) more
 
 abbrev pub from_slot : ℕ → Source
-from_slot slot = record { holder = StackSlot slot; more = pos 0 }
+from_slot slot = exactly (StackSlot slot) (pos 0)
 
 -- ---- between which numbers a register's lies: a number's interval, or the addresses near a lent region
 abbrev pub numbers_of : Known → Option Interval
@@ -69,14 +74,52 @@ moved_from width register range = if fits width range then Some (from_register r
 abbrev pub moved_in : AbsState → Width → ℕ → Option Source
 moved_in a width register = option_and_then (moved_from width register) (numbers_in a register)
 
+-- ---- a sum or a difference of two registers that can't wrap: the first one's number, and more by any that the second
+-- may hold, where those have no more than 63 bits
+abbrev pub shifts_by : Arithmetic → Interval → Option (ℤ × ℤ)
+shifts_by Add by = Some (pos by.low, pos by.high)
+shifts_by Sub by = Some (pos 0 -ℤ pos by.high, pos 0 -ℤ pos by.low)
+shifts_by operation by = None
+
+abbrev pub shifts_of : Arithmetic → Interval → Option (ℤ × ℤ)
+shifts_of operation by =
+    if nat_lt by.low (2 ^ 63) && nat_lt by.high (2 ^ 63) then shifts_by operation by else None
+
+abbrev pub between : ℕ → ℤ × ℤ → Source
+between register more = record { holder = Register register; low = more.0; high = more.1 }
+
+abbrev pub ranged_by : Width → ℕ → ℤ × ℤ → Interval → Option Source
+ranged_by width register more range =
+    if stays width range more.0 && stays width range more.1 then Some (between register more) else None
+
+abbrev pub ranged_in : AbsState → Width → Arithmetic → ℕ → ℕ → Option Source
+ranged_in a width operation first second =
+    option_and_then (λ more. option_and_then (ranged_by width first more) (numbers_in a first))
+    (option_and_then (shifts_of operation) (numbers_in a second))
+
+-- a sum is more than the address among its sides, if there is one, and else more than what was there
+abbrev pub is_lent : Option Known → Bool
+is_lent None = false
+is_lent (Some (Number q)) = false
+is_lent (Some (Context p)) = false
+is_lent (Some (Stack p)) = false
+is_lent (Some (Lent p)) = true
+
+abbrev pub summed_in : AbsState → Width → ℕ → ℕ → Option Source
+summed_in a width register other =
+    if is_lent (held_in a (Register other)) then ranged_in a width Add other register
+    else ranged_in a width Add register other
+
 -- ---- of what an instruction writes only these are known
-abbrev pub from_other : AbsState → Width → Arithmetic → ℕ → Option Source
-from_other a width Mov register = moved_in a width register
-from_other a width operation register = None
+abbrev pub from_other : AbsState → Width → Arithmetic → ℕ → ℕ → Option Source
+from_other a width Mov register other = moved_in a width other
+from_other a width Add register other = summed_in a width register other
+from_other a width Sub register other = ranged_in a width Sub register other
+from_other a width operation register other = None
 
 abbrev pub computed_in : AbsState → Width → Arithmetic → ℕ → Operand → Option Source
 computed_in a width operation register (Immediate value) = shifted_in a width operation register value
-computed_in a width operation register (FromRegister other) = from_other a width operation other
+computed_in a width operation register (FromRegister other) = from_other a width operation register other
 
 abbrev pub written_in : AbsState → Insn → Option Source
 written_in a (Compute width operation register operand) = computed_in a width operation register operand

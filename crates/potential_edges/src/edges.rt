@@ -15,6 +15,7 @@ use label_potentials::counted::is_whole;
 use label_potentials::positive::{is_above, nothing};
 use label_potentials::potential::{Potential, term_at};
 use potentials::{Form, Weighed};
+use tracked_state::state::TrackedState;
 
 /// A potential before an edge less one behind it: a constant, and what is weighed.
 #[derive(Clone, Copy)]
@@ -47,7 +48,7 @@ fn byte_less(one: i32, other: i32) -> i64
 
 /// A potential before an edge less one behind it, by what is known of both.
 fn compared(
-    state: &AbsState,
+    state: &TrackedState,
     insn: &Insn,
     behind: &AbsState,
     first: &Potential,
@@ -89,7 +90,7 @@ fn is_more(state: &AbsState, first: &Potential, second: &Potential, difference: 
 
 /// Whether the second potential behind an edge is less than the first before it, by what is known of both.
 pub fn falls(
-    state: &AbsState,
+    state: &TrackedState,
     insn: &Insn,
     behind: &AbsState,
     first: &Potential,
@@ -99,13 +100,13 @@ pub fn falls(
     ensures sound { IsTrue result
         → Falls state.now insn.now behind.now (potential_of first.now) (potential_of second.now) }
 {
-    is_whole(state);
+    is_whole(&state.state);
     is_whole(behind);
     has_eight(first);
     has_eight(second);
     writes_one(insn);
     match compared(state, insn, behind, first, second) {
-        Some(difference) => is_more(state, first, second, &difference),
+        Some(difference) => is_more(&state.state, first, second, &difference),
         None => false,
     }
 }

@@ -2,6 +2,7 @@
 //! instruction and behind it.
 #![tactic(auto)]
 
+pub mod ahead;
 pub mod edges;
 mod leasts;
 mod rest;

@@ -12,6 +12,8 @@ use intervals::Range;
 use known_bits::Bits;
 use label_potentials::potential::{Base, Holder, Potential, Term};
 use std::test::Fail;
+use tracked_state::state::TrackedState;
+use value_marks::copies::Copies;
 
 /// A row; a potential is a constant less r1 by a weight.
 #[derive(Clone, Copy)]
@@ -44,15 +46,24 @@ const fn edge(
 
 /// What is known of r1, and of nothing else but what is known at each start.
 fn holding(low: u64, high: u64) -> Option<AbsState> {
-    let register = Register::new(1)?;
+    with(AbsState::entry(), 1, low, high)
+}
+
+/// What is known, and between which numbers a register's lies.
+fn with(mut state: AbsState, number: u8, low: u64, high: u64) -> Option<AbsState> {
+    let register = Register::new(number)?;
     let range = Range::new(low, high)?;
     let quantity = Quantity::normal(Bits::unknown(), range, Tails::none())?;
-    let mut state = AbsState::entry();
     state.put(register, Known::Number(quantity));
     Some(state)
 }
 
 fn potential(constant: i64, weight: i32) -> Potential {
+    potential_of(constant, weight, 1)
+}
+
+/// A constant less a register by a weight.
+fn potential_of(constant: i64, weight: i32, number: u8) -> Potential {
     let nothing = Term {
         weight: 0,
         holder: Holder::Register(0),
@@ -61,7 +72,7 @@ fn potential(constant: i64, weight: i32) -> Potential {
     let mut less = [nothing; 8];
     less[0] = Term {
         weight,
-        holder: Holder::Register(1),
+        holder: Holder::Register(number),
         base: Base::Zero,
     };
     Potential {
@@ -80,7 +91,10 @@ fn row_falls(row: &Row) -> Option<bool> {
         destination: Register::new(1)?,
         operand: Operand::Immediate(row.added),
     };
-    let before = holding(row.before.0, row.before.1)?;
+    let before = TrackedState {
+        state: holding(row.before.0, row.before.1)?,
+        copies: Copies::untracked(),
+    };
     let behind = holding(row.behind.0, row.behind.1)?;
     let first = potential(row.first.0, row.first.1);
     let second = potential(row.second.0, row.second.1);
@@ -107,5 +121,39 @@ fn edges_fall_as_far_as_is_known(rt: HostRuntime) -> Result<(), Fail> {
     for row in &rows {
         assert_eq!(rt; row_falls(row), Some(row.falls));
     }
+    Ok(())
+}
+
+/// `r2 = r1`, say.
+fn by_register(operation: Arithmetic, destination: u8, source: u8) -> Option<Insn> {
+    Some(Insn::Compute {
+        width: Width::Full,
+        operation,
+        destination: Register::new(destination)?,
+        operand: Operand::Source(Register::new(source)?),
+    })
+}
+
+/// Whether a potential that weighs r1 falls to one that weighs r2, which is counted up.
+fn copies_fall(mut copies: Copies) -> Option<bool> {
+    let state = with(holding(0, 9)?, 2, 0, 9)?;
+    copies.follow(3, &by_register(Arithmetic::Mov, 2, 1)?, &state);
+    let before = TrackedState { state, copies };
+    let insn = Insn::Compute {
+        width: Width::Full,
+        operation: Arithmetic::Add,
+        destination: Register::new(2)?,
+        operand: Operand::Immediate(1),
+    };
+    let behind = with(state, 2, 1, 10)?;
+    let first = potential(11, 1);
+    Some(falls(&before, &insn, &behind, &first, &potential_of(11, 1, 2)))
+}
+
+#[test]
+fn copies_are_weighed_as_one_value(rt: HostRuntime) -> Result<(), Fail> {
+    let tracked = Copies::tracked(rt.alloc())?;
+    assert_eq!(rt; copies_fall(tracked), Some(true));
+    assert_eq!(rt; copies_fall(Copies::untracked()), Some(false));
     Ok(())
 }

@@ -1,7 +1,9 @@
 //! What a holder holds behind an instruction, by what a holder held before it.
-ghost use Rattle.std.specs.Prelude.{◌≡◌, ◌<◌, ℕ, Some, option_map};
+ghost use Rattle.std.specs.Prelude.{◌≡◌, ◌<◌, ◌≤◌, ◌^◌, ℕ, Some, option_map, unsigned_abs};
 ghost use Rattle.bpf_words.specs.Flow.{written_by};
 ghost use Rattle.intervals.specs.Interval.{interval_of};
+ghost use Rattle.label_potentials.specs.declared.potential.Holder.TheVariants.{Register as RegisterHolder};
+ghost use Rattle.label_potentials.specs.Counts.{held_in};
 ghost use Rattle.potential_edges.specs.Sources as rules;
 
 use abstract_state::known::Known;
@@ -13,11 +15,23 @@ use intervals::Range;
 use label_potentials::counted::held;
 use label_potentials::potential::Holder;
 
-/// A holder before an instruction, and how much more there is behind it.
+/// A holder before an instruction, and between which numbers lies how much more there is behind it.
 #[derive(Clone, Copy)]
 pub struct Source {
     pub holder: Holder,
-    pub more: i64,
+    pub low: i64,
+    pub high: i64,
+}
+
+/// A holder, and how much more exactly.
+fn exactly(holder: Holder, more: i64) -> Source
+    ensures { result ≡ rules.exactly holder more }
+{
+    Source {
+        holder,
+        low: more,
+        high: more,
+    }
 }
 
 /// Whether an instruction writes a register.
@@ -69,10 +83,10 @@ fn numbers_of(known: Known) -> Option<Range>
 }
 
 /// The numbers between which a register's number lies.
-fn numbers_in(state: &AbsState, register: Register) -> Option<Range>
-    ensures { option_map interval_of result ≡ rules.numbers_in state.now register }
+pub(crate) fn numbers_in(state: &AbsState, number: u8) -> Option<Range>
+    ensures { option_map interval_of result ≡ rules.numbers_in state.now number }
 {
-    let known = held(state, Holder::Register(register.number()))?;
+    let known = held(state, Holder::Register(number))?;
     numbers_of(known)
 }
 
@@ -88,19 +102,20 @@ fn shift(operation: Arithmetic, value: i32) -> Option<i64>
 }
 
 /// Whether no number of the interval has more bits than the width.
-fn fits(width: Width, range: Range) -> bool
+pub(crate) fn fits(width: Width, range: Range) -> bool
     ensures { result ≡ rules.fits width (interval_of range) }
 {
     range.high <= greatest(width)
 }
 
 /// Whether no number of the interval wraps where so much more is added to it.
-fn stays(width: Width, range: Range, more: i64) -> bool
+pub(crate) fn stays(width: Width, range: Range, more: i128) -> bool
+    requires { unsigned_abs more ≤ 2 ^ 64 }
     ensures { result ≡ rules.stays width (interval_of range) more }
 {
     let most = i128::from(greatest(width));
-    let low = i128::from(range.low) + i128::from(more);
-    let high = i128::from(range.high) + i128::from(more);
+    let low = i128::from(range.low) + more;
+    let high = i128::from(range.high) + more;
     fits(width, range) && 0 <= low && high <= most
 }
 
@@ -115,28 +130,80 @@ fn shifted(
     ensures { result ≡ rules.shifted_in state.now width operation destination value }
 {
     let more = shift(operation, value)?;
-    let range = numbers_in(state, destination)?;
-    if !stays(width, range, more) {
+    let range = numbers_in(state, destination.number())?;
+    if !stays(width, range, i128::from(more)) {
         return None;
     }
-    Some(Source {
-        holder: Holder::Register(destination.number()),
-        more,
-    })
+    Some(exactly(Holder::Register(destination.number()), more))
 }
 
 /// A move of a number that the width doesn't cut.
 fn moved(state: &AbsState, width: Width, source: Register) -> Option<Source>
     ensures { result ≡ rules.moved_in state.now width source }
 {
-    let range = numbers_in(state, source)?;
+    let range = numbers_in(state, source.number())?;
     if !fits(width, range) {
         return None;
     }
+    Some(exactly(Holder::Register(source.number()), 0))
+}
+
+/// The numbers between which a sum or a difference with a number of an interval is more.
+fn shifts(operation: Arithmetic, by: Range) -> Option<(i64, i64)>
+    ensures { result ≡ rules.shifts_of operation (interval_of by) }
+{
+    let (Ok(low), Ok(high)) = (i64::try_from(by.low), i64::try_from(by.high)) else {
+        return None;
+    };
+    match operation {
+        Arithmetic::Add => Some((low, high)),
+        Arithmetic::Sub => Some((-high, -low)),
+        _ => None,
+    }
+}
+
+/// A sum or a difference of two registers that can't wrap, as the first one's number and more.
+fn ranged(
+    state: &AbsState,
+    width: Width,
+    operation: Arithmetic,
+    first: Register,
+    second: Register,
+) -> Option<Source>
+    ensures { result ≡ rules.ranged_in state.now width operation first second }
+{
+    let by = numbers_in(state, second.number())?;
+    let (low, high) = shifts(operation, by)?;
+    let range = numbers_in(state, first.number())?;
+    if !stays(width, range, i128::from(low)) || !stays(width, range, i128::from(high)) {
+        return None;
+    }
     Some(Source {
-        holder: Holder::Register(source.number()),
-        more: 0,
+        holder: Holder::Register(first.number()),
+        low,
+        high,
     })
+}
+
+/// Whether a register holds an address near a lent region.
+fn is_lent(state: &AbsState, register: Register) -> bool
+    ensures { result ≡ rules.is_lent (held_in state.now (RegisterHolder register)) }
+{
+    match held(state, Holder::Register(register.number())) {
+        Some(Known::Lent(_)) => true,
+        _ => false,
+    }
+}
+
+/// A sum is more than the address among its sides, if there is one, and else more than what was there.
+fn summed(state: &AbsState, width: Width, destination: Register, source: Register) -> Option<Source>
+    ensures { result ≡ rules.summed_in state.now width destination source }
+{
+    if is_lent(state, source) {
+        ranged(state, width, Arithmetic::Add, source, destination)
+    } else {
+        ranged(state, width, Arithmetic::Add, destination, source)
+    }
 }
 
 /// A result of an operation with two sides.
@@ -153,6 +220,8 @@ fn computed(
         Operand::Immediate(value) => shifted(state, width, operation, destination, value),
         Operand::Source(source) => match operation {
             Arithmetic::Mov => moved(state, width, source),
+            Arithmetic::Add => summed(state, width, destination, source),
+            Arithmetic::Sub => ranged(state, width, operation, destination, source),
             _ => None,
         },
     }
@@ -173,7 +242,8 @@ fn written(state: &AbsState, insn: &Insn) -> Option<Source>
     }
 }
 
-/// What a holder holds behind an instruction, where it is what a holder held before it, or a constant more.
+/// What a holder holds behind an instruction, where it is what a holder held before it, or more by a number of known
+/// bounds.
 pub fn source_of(state: &AbsState, insn: &Insn, holder: Holder) -> Option<Source>
     ensures { result ≡ rules.source_in state.now insn.now holder }
 {
@@ -182,14 +252,14 @@ pub fn source_of(state: &AbsState, insn: &Insn, holder: Holder) -> Option<Source
             if writes(insn, number) {
                 written(state, insn)
             } else {
-                Some(Source { holder, more: 0 })
+                Some(exactly(holder, 0))
             }
         }
         Holder::StackSlot(_) => {
             if is_store(insn) {
                 None
             } else {
-                Some(Source { holder, more: 0 })
+                Some(exactly(holder, 0))
             }
         }
     }

@@ -3,8 +3,9 @@ use Rattle.std.specs.Prelude.{ℕ, ◌+◌, List, [], ◌++◌, codes}
 use Rattle.std.specs.Fmt.{decimal}
 use Rattle.bpf_words.specs.declared.refusal.WordError.{WordError}
 use Rattle.bpf_words.specs.declared.refusal.WordError.TheVariants as words
-use Rattle.verifier.specs.declared.refusal.VerifyError.{VerifyError}
 use Rattle.verifier.specs.declared.refusal.VerifyError.TheVariants as verifying
+use Rattle.filters.specs.declared.refusal.FilterError.{FilterError}
+use Rattle.filters.specs.declared.refusal.FilterError.TheVariants.{Program, UnboundedLoop, SearchLimit}
 use Rattle.assembler.specs.declared.fault.AsmError.{AsmError}
 use Rattle.assembler.specs.declared.fault.AsmError.TheVariants as source
 use Rattle.change_ops.specs.declared.refusal.ChangeError.{ChangeError}
@@ -36,15 +37,19 @@ word_location words.TooLong = Whole
 word_location words.LengthNotEight = Whole
 word_location (words.Slot slot fault) = Slot slot
 
-abbrev pub verdict_title : VerifyError → List ℕ
-verdict_title (verifying.Structure slot fault) = structure_fault fault
-verdict_title (verifying.State slot fault) = state_fault fault
-verdict_title verifying.OutOfMemory = codes "27 OutOfMemory"
+abbrev pub verdict_title : FilterError → List ℕ
+verdict_title (Program (verifying.Structure slot fault)) = structure_fault fault
+verdict_title (Program (verifying.State slot fault)) = state_fault fault
+verdict_title (Program verifying.OutOfMemory) = codes "27 OutOfMemory"
+verdict_title (UnboundedLoop slot) = codes "74 UnboundedLoop"
+verdict_title SearchLimit = codes "75 SearchLimit"
 
-abbrev pub verdict_location : VerifyError → Location
-verdict_location (verifying.Structure slot fault) = Slot slot
-verdict_location (verifying.State slot fault) = Slot slot
-verdict_location verifying.OutOfMemory = Whole
+abbrev pub verdict_location : FilterError → Location
+verdict_location (Program (verifying.Structure slot fault)) = Slot slot
+verdict_location (Program (verifying.State slot fault)) = Slot slot
+verdict_location (Program verifying.OutOfMemory) = Whole
+verdict_location (UnboundedLoop slot) = Slot slot
+verdict_location SearchLimit = Whole
 
 abbrev pub source_title : AsmError → List ℕ
 source_title (source.Line line fault) = line_fault fault

@@ -10,6 +10,7 @@ use assembler::fault::AsmError;
 use bpf_words::refusal::WordError;
 use change_history::refusal::SubmitError;
 use change_ops::refusal::ChangeError;
+use filters::refusal::FilterError;
 use refusal_titles::{
     ASSEMBLER_OUT_OF_MEMORY, BAD_CAPACITY, BAD_COMMAND, BAD_HEX, BAD_LINE, CHAR_REFUSED, EMPTY,
     HISTORY_FULL, LENGTH_NOT_EIGHT, LIMIT, LINE_TOO_LONG, NO_SUBSCRIBER, NO_VERSION, OUT_OF_MEMORY,
@@ -19,13 +20,19 @@ use refusal_titles::{
 use std::fmt;
 use verifier::refusal::VerifyError;
 
+/// A program that loops, without a bound of its steps.
+const UNBOUNDED_LOOP: &str = "74 UnboundedLoop";
+
+/// A search for what is known of a program that loops, which took too long.
+const SEARCH_LIMIT: &str = "75 SearchLimit";
+
 /// Why an input, or a line of a session, is refused.
 #[derive(Clone, Copy)]
 pub enum Reason {
     /// Bytes that aren't a program.
     Words(WordError),
     /// A program that isn't accepted.
-    Unverified(VerifyError),
+    Unverified(FilterError),
     /// No assembler text.
     Source(AsmError),
     /// A change that can't be read.
@@ -103,23 +110,27 @@ fn word_location(error: WordError) -> Location
     }
 }
 
-fn verdict_title(error: VerifyError) -> &'static str
+fn verdict_title(error: FilterError) -> &'static str
     ensures { result.now ≡ verdict_title error }
 {
     match error {
-        VerifyError::Structure { fault, .. } => structure_fault(fault),
-        VerifyError::State { fault, .. } => state_fault(fault),
-        VerifyError::OutOfMemory => VERIFIER_OUT_OF_MEMORY,
+        FilterError::Program(VerifyError::Structure { fault, .. }) => structure_fault(fault),
+        FilterError::Program(VerifyError::State { fault, .. }) => state_fault(fault),
+        FilterError::Program(VerifyError::OutOfMemory) => VERIFIER_OUT_OF_MEMORY,
+        FilterError::UnboundedLoop { .. } => UNBOUNDED_LOOP,
+        FilterError::SearchLimit => SEARCH_LIMIT,
     }
 }
 
-fn verdict_location(error: VerifyError) -> Location
+fn verdict_location(error: FilterError) -> Location
     ensures { result ≡ verdict_location error }
 {
     match error {
-        VerifyError::Structure { slot, .. } => Location::Slot(slot),
-        VerifyError::State { slot, .. } => Location::Slot(slot),
-        VerifyError::OutOfMemory => Location::Whole,
+        FilterError::Program(VerifyError::Structure { slot, .. }) => Location::Slot(slot),
+        FilterError::Program(VerifyError::State { slot, .. }) => Location::Slot(slot),
+        FilterError::Program(VerifyError::OutOfMemory) => Location::Whole,
+        FilterError::UnboundedLoop { slot } => Location::Slot(slot),
+        FilterError::SearchLimit => Location::Whole,
     }
 }
 

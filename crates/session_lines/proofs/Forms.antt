@@ -12,8 +12,9 @@ use Rattle.change_ops.proofs.Grammar.{Lacks, bind_some, split_again, split_takes
 use Rattle.change_ops.proofs.Phrases.{same_bytes}
 use Rattle.change_ops.proofs.KeyWords.{lacks_all}
 use Rattle.change_ops.proofs.NumeralForms.{number_takes, number_again}
-use Rattle.span_context.specs.declared.profile.Profile.{Profile}
 use Rattle.span_context.specs.declared.profile.Profile.TheVariants.{One, Two, Three}
+use Rattle.filters.specs.declared.rules.RuleSet.{RuleSet}
+use Rattle.filters.specs.declared.rules.RuleSet.TheVariants.{Straight, Looping}
 use Rattle.session_lines.specs.Commands.{Command, name_of, show_word, subscribe, pull, close, read, Number, IsCount, Count, IsFewChanges, FewChanges, OneWord, CommandForm, Grants, IsAsked}
 use Rattle.session_lines.specs.Reading.{is_count, is_few_changes, is_one_word, from_at, program_at, subscribe_at, pull_at, close_at, show_at, changes_at, newest_at, query_at, words_at, alone_at, either_of, command_at}
 use Rattle.session_lines.specs.declared.query.Query.{Query}
@@ -84,43 +85,43 @@ named_line name line j lacks = ap (split 32) (j.whole ∙ ap (λ (x : List ℕ).
 
 -- ---- the forms
 -- a subscription's line, whose capacity was read
-module _ (line fields number rest : List ℕ) (profile : Profile) (capacity : ℕ) (c : Command) (text : line ≡ name_of profile ␣ fields) (whole : fields ≡ number ␣ rest) (before : Number capacity number) where
-  from_form : from_at profile capacity rest ≡ Some c → CommandForm c line
+module _ (line fields number rest : List ℕ) (rules : RuleSet) (capacity : ℕ) (c : Command) (text : line ≡ name_of rules ␣ fields) (whole : fields ≡ number ␣ rest) (before : Number capacity number) where
+  from_form : from_at rules capacity rest ≡ Some c → CommandForm c line
   unfolding from_at
   from_form e =
-      let p = bind_some (split 32 rest) (λ parts. split 32 parts.1 >>= λ more. small (number_in 10 more.1) >>= λ first. if is_one_word parts.0 && bytes_eq more.0 (codes "from") then Some (subscribe profile capacity parts.0 (Some first)) else None) c e in
-      let q = bind_some (split 32 p.0.1) (λ more. small (number_in 10 more.1) >>= λ first. if is_one_word p.0.0 && bytes_eq more.0 (codes "from") then Some (subscribe profile capacity p.0.0 (Some first)) else None) c p.2 in
-      let n = bind_some (small (number_in 10 q.0.1)) (λ first. if is_one_word p.0.0 && bytes_eq q.0.0 (codes "from") then Some (subscribe profile capacity p.0.0 (Some first)) else None) c q.2 in
-      let g = guard_some (is_one_word p.0.0 && bytes_eq q.0.0 (codes "from")) (subscribe profile capacity p.0.0 (Some n.0)) c n.2 in
+      let p = bind_some (split 32 rest) (λ parts. split 32 parts.1 >>= λ more. small (number_in 10 more.1) >>= λ first. if is_one_word parts.0 && bytes_eq more.0 (codes "from") then Some (subscribe rules capacity parts.0 (Some first)) else None) c e in
+      let q = bind_some (split 32 p.0.1) (λ more. small (number_in 10 more.1) >>= λ first. if is_one_word p.0.0 && bytes_eq more.0 (codes "from") then Some (subscribe rules capacity p.0.0 (Some first)) else None) c p.2 in
+      let n = bind_some (small (number_in 10 q.0.1)) (λ first. if is_one_word p.0.0 && bytes_eq q.0.0 (codes "from") then Some (subscribe rules capacity p.0.0 (Some first)) else None) c q.2 in
+      let g = guard_some (is_one_word p.0.0 && bytes_eq q.0.0 (codes "from")) (subscribe rules capacity p.0.0 (Some n.0)) c n.2 in
       let both = and_parts (is_one_word p.0.0) (bytes_eq q.0.0 (codes "from")) g.0 in
       let last : Joined 32 (Word (codes "from")) (Number n.0) p.0.1 = record { first = q.0.0; second = q.0.1; whole = (split_takes 32 p.0.1 q.0.0 q.0.1 q.1).0; before = same_bytes q.0.0 (codes "from") both.1; after = number_form q.0.1 n.0 n.1 } in
       let behind : Joined 32 (OneWord p.0.0) (Joined 32 (Word (codes "from")) (Number n.0)) rest = record { first = p.0.0; second = p.0.1; whole = (split_takes 32 rest p.0.0 p.0.1 p.1).0; before = one_word_form p.0.0 both.0; after = last } in
       let after : Joined 32 (Number capacity) (Joined 32 (OneWord p.0.0) (Joined 32 (Word (codes "from")) (Number n.0))) fields = record { first = number; second = rest; whole = whole; before = before; after = behind } in
-      let form : CommandForm (subscribe profile capacity p.0.0 (Some n.0)) line = record { first = name_of profile; second = fields; whole = text; before = refl; after = after } in
+      let form : CommandForm (subscribe rules capacity p.0.0 (Some n.0)) line = record { first = name_of rules; second = fields; whole = text; before = refl; after = after } in
       subst (λ (x : Command). CommandForm x line) g.1 form
 
-  program_form : program_at profile capacity rest ≡ Some c → CommandForm c line
+  program_form : program_at rules capacity rest ≡ Some c → CommandForm c line
   program_form e = go (is_one_word rest) refl e where
-    go : (b : Bool) → is_one_word rest ≡ b → cond b (Some (subscribe profile capacity rest None)) (from_at profile capacity rest) ≡ Some c → CommandForm c line
+    go : (b : Bool) → is_one_word rest ≡ b → cond b (Some (subscribe rules capacity rest None)) (from_at rules capacity rest) ≡ Some c → CommandForm c line
     go true f e =
-        let same : subscribe profile capacity rest None ≡ c = cc e in
+        let same : subscribe rules capacity rest None ≡ c = cc e in
         let after : Joined 32 (Number capacity) (OneWord rest) fields = record { first = number; second = rest; whole = whole; before = before; after = one_word_form rest f } in
-        let form : CommandForm (subscribe profile capacity rest None) line = record { first = name_of profile; second = fields; whole = text; before = refl; after = after } in
+        let form : CommandForm (subscribe rules capacity rest None) line = record { first = name_of rules; second = fields; whole = text; before = refl; after = after } in
         subst (λ (x : Command). CommandForm x line) same form
     go false f e = from_form e
 
-subscribe_form : (line fields : List ℕ) (profile : Profile) (c : Command) → line ≡ name_of profile ␣ fields → subscribe_at profile fields ≡ Some c → CommandForm c line
+subscribe_form : (line fields : List ℕ) (rules : RuleSet) (c : Command) → line ≡ name_of rules ␣ fields → subscribe_at rules fields ≡ Some c → CommandForm c line
 unfolding subscribe_at
-subscribe_form line fields profile c text e =
-    let a = bind_some (split 32 fields) (λ parts. small (number_in 10 parts.0) >>= λ capacity. program_at profile capacity parts.1) c e in
-    let b = bind_some (small (number_in 10 a.0.0)) (λ capacity. program_at profile capacity a.0.1) c a.2 in
-    program_form line fields a.0.0 a.0.1 profile b.0 c text (split_takes 32 fields a.0.0 a.0.1 a.1).0 (number_form a.0.0 b.0 b.1) b.2
+subscribe_form line fields rules c text e =
+    let a = bind_some (split 32 fields) (λ parts. small (number_in 10 parts.0) >>= λ capacity. program_at rules capacity parts.1) c e in
+    let b = bind_some (small (number_in 10 a.0.0)) (λ capacity. program_at rules capacity a.0.1) c a.2 in
+    program_form line fields a.0.0 a.0.1 rules b.0 c text (split_takes 32 fields a.0.0 a.0.1 a.1).0 (number_form a.0.0 b.0 b.1) b.2
 
-subscribe_read : (fields : List ℕ) (profile : Profile) (capacity : ℕ) (digits : List ℕ) → Joined 32 (Number capacity) (OneWord digits) fields → subscribe_at profile fields ≡ Some (subscribe profile capacity digits None)
+subscribe_read : (fields : List ℕ) (rules : RuleSet) (capacity : ℕ) (digits : List ℕ) → Joined 32 (Number capacity) (OneWord digits) fields → subscribe_at rules fields ≡ Some (subscribe rules capacity digits None)
 unfolding subscribe_at
-subscribe_read fields profile capacity digits j =
+subscribe_read fields rules capacity digits j =
     rw (joined_again fields j (no_space j.first capacity j.before), number_read j.first capacity j.before, one_word_read j.second digits j.after)
-    (ap (λ (w : List ℕ). Some (subscribe profile capacity w None)) j.after.whole)
+    (ap (λ (w : List ℕ). Some (subscribe rules capacity w None)) j.after.whole)
 
 -- two words are no single one
 spaced : (word rest : List ℕ) → list_all (λ b. not (eqb b 32)) (word ++ 32 ∷ rest) ≡ false
@@ -136,20 +137,20 @@ two_words text word rest e = rw (e, spaced word rest) (no_more (leb 1 (length (w
   no_more true = refl
   no_more false = refl
 
-from_read : (profile : Profile) (capacity first : ℕ) (digits text : List ℕ) → Joined 32 (OneWord digits) (Joined 32 (Word (codes "from")) (Number first)) text → from_at profile capacity text ≡ Some (subscribe profile capacity digits (Some first))
+from_read : (rules : RuleSet) (capacity first : ℕ) (digits text : List ℕ) → Joined 32 (OneWord digits) (Joined 32 (Word (codes "from")) (Number first)) text → from_at rules capacity text ≡ Some (subscribe rules capacity digits (Some first))
 unfolding from_at
-from_read profile capacity first digits text j =
+from_read rules capacity first digits text j =
     let one : is_one_word j.first ≡ true = one_word_read j.first digits j.before in
     let word : Lacks 32 j.first = subst (Lacks 32) (sym j.before.whole) (lacks_all 32 digits (all_spaceless digits j.before.one)) in
     let name : split 32 j.second ≡ Some (codes "from", j.after.second) = named_line (codes "from") j.second j.after (lacks_all 32 (codes "from") refl) in
-    rw (joined_again text j word, name, number_read j.after.second first j.after.after, one) (ap (λ (w : List ℕ). Some (subscribe profile capacity w (Some first))) j.before.whole)
+    rw (joined_again text j word, name, number_read j.after.second first j.after.after, one) (ap (λ (w : List ℕ). Some (subscribe rules capacity w (Some first))) j.before.whole)
 
-subscribe_from_read : (fields : List ℕ) (profile : Profile) (capacity first : ℕ) (digits : List ℕ) → Joined 32 (Number capacity) (Joined 32 (OneWord digits) (Joined 32 (Word (codes "from")) (Number first))) fields
-    → subscribe_at profile fields ≡ Some (subscribe profile capacity digits (Some first))
+subscribe_from_read : (fields : List ℕ) (rules : RuleSet) (capacity first : ℕ) (digits : List ℕ) → Joined 32 (Number capacity) (Joined 32 (OneWord digits) (Joined 32 (Word (codes "from")) (Number first))) fields
+    → subscribe_at rules fields ≡ Some (subscribe rules capacity digits (Some first))
 unfolding subscribe_at
-subscribe_from_read fields profile capacity first digits j =
+subscribe_from_read fields rules capacity first digits j =
     let no : is_one_word j.second ≡ false = two_words j.second j.after.first j.after.second j.after.whole in
-    rw (joined_again fields j (no_space j.first capacity j.before), number_read j.first capacity j.before, no) (from_read profile capacity first digits j.second j.after)
+    rw (joined_again fields j (no_space j.first capacity j.before), number_read j.first capacity j.before, no) (from_read rules capacity first digits j.second j.after)
 
 pull_form : (line fields : List ℕ) (c : Command) → line ≡ codes "pull" ␣ fields → pull_at fields ≡ Some c → CommandForm c line
 unfolding pull_at
@@ -247,22 +248,23 @@ query_form line name fields c whole e = go (bytes_eq name (codes "show")) (bytes
 words_form : (line : List ℕ) (c : Command) → words_at line ≡ Some c → CommandForm c line
 unfolding words_at
 words_form line c e =
-    let a = bind_some (split 32 line) (λ parts. if bytes_eq parts.0 (codes "sub") then subscribe_at One parts.1 else if bytes_eq parts.0 (codes "sub2") then subscribe_at Two parts.1 else if bytes_eq parts.0 (codes "sub3") then subscribe_at Three parts.1 else if bytes_eq parts.0 (codes "pull") then pull_at parts.1 else if bytes_eq parts.0 (codes "close") then close_at parts.1 else query_at parts.0 parts.1) c e in
+    let a = bind_some (split 32 line) (λ parts. if bytes_eq parts.0 (codes "sub") then subscribe_at (Straight One) parts.1 else if bytes_eq parts.0 (codes "sub2") then subscribe_at (Straight Two) parts.1 else if bytes_eq parts.0 (codes "sub3") then subscribe_at (Straight Three) parts.1 else if bytes_eq parts.0 (codes "sub4") then subscribe_at Looping parts.1 else if bytes_eq parts.0 (codes "pull") then pull_at parts.1 else if bytes_eq parts.0 (codes "close") then close_at parts.1 else query_at parts.0 parts.1) c e in
     kinds a.0.0 a.0.1 (split_takes 32 line a.0.0 a.0.1 a.1).0 a.2
   where
-    kinds : (name fields : List ℕ) → line ≡ name ␣ fields → (if bytes_eq name (codes "sub") then subscribe_at One fields else if bytes_eq name (codes "sub2") then subscribe_at Two fields else if bytes_eq name (codes "sub3") then subscribe_at Three fields else if bytes_eq name (codes "pull") then pull_at fields else if bytes_eq name (codes "close") then close_at fields else query_at name fields) ≡ Some c → CommandForm c line
-    kinds name fields whole e = go (bytes_eq name (codes "sub")) (bytes_eq name (codes "sub2")) (bytes_eq name (codes "sub3")) (bytes_eq name (codes "pull")) (bytes_eq name (codes "close")) refl refl refl refl refl e where
+    kinds : (name fields : List ℕ) → line ≡ name ␣ fields → (if bytes_eq name (codes "sub") then subscribe_at (Straight One) fields else if bytes_eq name (codes "sub2") then subscribe_at (Straight Two) fields else if bytes_eq name (codes "sub3") then subscribe_at (Straight Three) fields else if bytes_eq name (codes "sub4") then subscribe_at Looping fields else if bytes_eq name (codes "pull") then pull_at fields else if bytes_eq name (codes "close") then close_at fields else query_at name fields) ≡ Some c → CommandForm c line
+    kinds name fields whole e = go (bytes_eq name (codes "sub")) (bytes_eq name (codes "sub2")) (bytes_eq name (codes "sub3")) (bytes_eq name (codes "sub4")) (bytes_eq name (codes "pull")) (bytes_eq name (codes "close")) refl refl refl refl refl refl e where
       named : (word : List ℕ) → bytes_eq name word ≡ true → line ≡ word ␣ fields
       named word f = whole ∙ ap (λ (x : List ℕ). x ␣ fields) (same_bytes name word f)
 
-      go : (s t u p q : Bool) → bytes_eq name (codes "sub") ≡ s → bytes_eq name (codes "sub2") ≡ t → bytes_eq name (codes "sub3") ≡ u → bytes_eq name (codes "pull") ≡ p → bytes_eq name (codes "close") ≡ q
-          → cond s (subscribe_at One fields) (cond t (subscribe_at Two fields) (cond u (subscribe_at Three fields) (cond p (pull_at fields) (cond q (close_at fields) (query_at name fields))))) ≡ Some c → CommandForm c line
-      go true t u p q f1 f2 f3 f4 f5 e = subscribe_form line fields One c (named (codes "sub") f1) e
-      go false true u p q f1 f2 f3 f4 f5 e = subscribe_form line fields Two c (named (codes "sub2") f2) e
-      go false false true p q f1 f2 f3 f4 f5 e = subscribe_form line fields Three c (named (codes "sub3") f3) e
-      go false false false true q f1 f2 f3 f4 f5 e = pull_form line fields c (named (codes "pull") f4) e
-      go false false false false true f1 f2 f3 f4 f5 e = close_form line fields c (named (codes "close") f5) e
-      go false false false false false f1 f2 f3 f4 f5 e = query_form line name fields c whole e
+      go : (s t u l p q : Bool) → bytes_eq name (codes "sub") ≡ s → bytes_eq name (codes "sub2") ≡ t → bytes_eq name (codes "sub3") ≡ u → bytes_eq name (codes "sub4") ≡ l → bytes_eq name (codes "pull") ≡ p → bytes_eq name (codes "close") ≡ q
+          → cond s (subscribe_at (Straight One) fields) (cond t (subscribe_at (Straight Two) fields) (cond u (subscribe_at (Straight Three) fields) (cond l (subscribe_at Looping fields) (cond p (pull_at fields) (cond q (close_at fields) (query_at name fields)))))) ≡ Some c → CommandForm c line
+      go true t u l p q f1 f2 f3 f4 f5 f6 e = subscribe_form line fields (Straight One) c (named (codes "sub") f1) e
+      go false true u l p q f1 f2 f3 f4 f5 f6 e = subscribe_form line fields (Straight Two) c (named (codes "sub2") f2) e
+      go false false true l p q f1 f2 f3 f4 f5 f6 e = subscribe_form line fields (Straight Three) c (named (codes "sub3") f3) e
+      go false false false true p q f1 f2 f3 f4 f5 f6 e = subscribe_form line fields Looping c (named (codes "sub4") f4) e
+      go false false false false true q f1 f2 f3 f4 f5 f6 e = pull_form line fields c (named (codes "pull") f5) e
+      go false false false false false true f1 f2 f3 f4 f5 f6 e = close_form line fields c (named (codes "close") f6) e
+      go false false false false false false f1 f2 f3 f4 f5 f6 e = query_form line name fields c whole e
 
 -- a line of several words is none of one word
 not_word : (word line : List ℕ) (parts : List ℕ × List ℕ) → split 32 word ≡ None → split 32 line ≡ Some parts → bytes_eq line word ≡ false
@@ -281,7 +283,7 @@ not_alone line parts e =
 spoken : (line : List ℕ) (c : Command) → words_at line ≡ Some c → command_at line ≡ Some c
 unfolding command_at words_at
 spoken line c w =
-    let a = bind_some (split 32 line) (λ parts. if bytes_eq parts.0 (codes "sub") then subscribe_at One parts.1 else if bytes_eq parts.0 (codes "sub2") then subscribe_at Two parts.1 else if bytes_eq parts.0 (codes "sub3") then subscribe_at Three parts.1 else if bytes_eq parts.0 (codes "pull") then pull_at parts.1 else if bytes_eq parts.0 (codes "close") then close_at parts.1 else query_at parts.0 parts.1) c w in
+    let a = bind_some (split 32 line) (λ parts. if bytes_eq parts.0 (codes "sub") then subscribe_at (Straight One) parts.1 else if bytes_eq parts.0 (codes "sub2") then subscribe_at (Straight Two) parts.1 else if bytes_eq parts.0 (codes "sub3") then subscribe_at (Straight Three) parts.1 else if bytes_eq parts.0 (codes "sub4") then subscribe_at Looping parts.1 else if bytes_eq parts.0 (codes "pull") then pull_at parts.1 else if bytes_eq parts.0 (codes "close") then close_at parts.1 else query_at parts.0 parts.1) c w in
     rw (not_alone line a.0 a.1) w
 
 -- one of one word is just that
@@ -315,12 +317,14 @@ HasWords command = Unit {0}
 
 words_read : (line : List ℕ) (c : Command) → HasWords c → CommandForm c line → words_at line ≡ Some c
 unfolding words_at
-words_read line (subscribe One capacity digits None) n j = rw (named_line (codes "sub") line j (lacks_all 32 (codes "sub") refl), subscribe_read j.second One capacity digits j.after) refl
-words_read line (subscribe One capacity digits (Some first)) n j = rw (named_line (codes "sub") line j (lacks_all 32 (codes "sub") refl), subscribe_from_read j.second One capacity first digits j.after) refl
-words_read line (subscribe Two capacity digits None) n j = rw (named_line (codes "sub2") line j (lacks_all 32 (codes "sub2") refl), subscribe_read j.second Two capacity digits j.after) refl
-words_read line (subscribe Two capacity digits (Some first)) n j = rw (named_line (codes "sub2") line j (lacks_all 32 (codes "sub2") refl), subscribe_from_read j.second Two capacity first digits j.after) refl
-words_read line (subscribe Three capacity digits None) n j = rw (named_line (codes "sub3") line j (lacks_all 32 (codes "sub3") refl), subscribe_read j.second Three capacity digits j.after) refl
-words_read line (subscribe Three capacity digits (Some first)) n j = rw (named_line (codes "sub3") line j (lacks_all 32 (codes "sub3") refl), subscribe_from_read j.second Three capacity first digits j.after) refl
+words_read line (subscribe (Straight One) capacity digits None) n j = rw (named_line (codes "sub") line j (lacks_all 32 (codes "sub") refl), subscribe_read j.second (Straight One) capacity digits j.after) refl
+words_read line (subscribe (Straight One) capacity digits (Some first)) n j = rw (named_line (codes "sub") line j (lacks_all 32 (codes "sub") refl), subscribe_from_read j.second (Straight One) capacity first digits j.after) refl
+words_read line (subscribe (Straight Two) capacity digits None) n j = rw (named_line (codes "sub2") line j (lacks_all 32 (codes "sub2") refl), subscribe_read j.second (Straight Two) capacity digits j.after) refl
+words_read line (subscribe (Straight Two) capacity digits (Some first)) n j = rw (named_line (codes "sub2") line j (lacks_all 32 (codes "sub2") refl), subscribe_from_read j.second (Straight Two) capacity first digits j.after) refl
+words_read line (subscribe (Straight Three) capacity digits None) n j = rw (named_line (codes "sub3") line j (lacks_all 32 (codes "sub3") refl), subscribe_read j.second (Straight Three) capacity digits j.after) refl
+words_read line (subscribe (Straight Three) capacity digits (Some first)) n j = rw (named_line (codes "sub3") line j (lacks_all 32 (codes "sub3") refl), subscribe_from_read j.second (Straight Three) capacity first digits j.after) refl
+words_read line (subscribe Looping capacity digits None) n j = rw (named_line (codes "sub4") line j (lacks_all 32 (codes "sub4") refl), subscribe_read j.second Looping capacity digits j.after) refl
+words_read line (subscribe Looping capacity digits (Some first)) n j = rw (named_line (codes "sub4") line j (lacks_all 32 (codes "sub4") refl), subscribe_from_read j.second Looping capacity first digits j.after) refl
 words_read line (pull subscriber count) n j = rw (named_line (codes "pull") line j (lacks_all 32 (codes "pull") refl), pull_read j.second subscriber count j.after) refl
 words_read line (close subscriber) n j = rw (named_line (codes "close") line j (lacks_all 32 (codes "close") refl), close_read j.second subscriber j.after) refl
 words_read line (read Latest) n j = absurd n
@@ -337,7 +341,7 @@ alone_read line word query is e = ap command_at e ∙ is
 
 pub command_read : (line : List ℕ) (c : Command) → CommandForm c line → command_at line ≡ Some c
 unfolding command_at
-command_read line (subscribe profile capacity digits first) j = spoken line _ (words_read line (subscribe profile capacity digits first) tt j)
+command_read line (subscribe rules capacity digits first) j = spoken line _ (words_read line (subscribe rules capacity digits first) tt j)
 command_read line (pull subscriber count) j = spoken line _ (words_read line (pull subscriber count) tt j)
 command_read line (close subscriber) j = spoken line _ (words_read line (close subscriber) tt j)
 command_read line (read Latest) j = alone_read line (codes "latest") Latest refl j
@@ -350,7 +354,7 @@ command_read line (read (Newest node)) j = spoken line _ (words_read line (read 
 
 -- ---- what is answered to a line
 never : (c : Command) → Grants c (Err BadCommand) → ⊥
-never (subscribe profile capacity digits first) g = g
+never (subscribe rules capacity digits first) g = g
 never (pull subscriber count) g = g
 never (close subscriber) g = g
 never (read query) g = g

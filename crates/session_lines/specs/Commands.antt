@@ -4,8 +4,9 @@ use Rattle.std.specs.Prelude.{Option, None, Some, Result, Ok, Err}
 use Rattle.std.specs.List.{AllByRecursion}
 use Rattle.hex.specs.Hex.{decode_of}
 use Rattle.hex.specs.declared.error.FromHexError.{FromHexError}
-use Rattle.span_context.specs.declared.profile.Profile.{Profile}
 use Rattle.span_context.specs.declared.profile.Profile.TheVariants.{One, Two, Three}
+use Rattle.filters.specs.declared.rules.RuleSet.{RuleSet}
+use Rattle.filters.specs.declared.rules.RuleSet.TheVariants.{Straight, Looping}
 use Rattle.change_ops.specs.Forms.{Numeral, Word, ◌⎵◌}
 use Rattle.session_lines.specs.declared.request.SessionRequest.{SessionRequest}
 use Rattle.session_lines.specs.declared.request.SessionRequest.TheVariants.{Subscribe, Pull, Close, Read}
@@ -14,10 +15,10 @@ use Rattle.session_lines.specs.declared.query.Query.TheVariants.{Latest, Left, H
 use Rattle.session_lines.specs.declared.fault.LineRefusal.{LineRefusal}
 use Rattle.session_lines.specs.declared.fault.LineRefusal.TheVariants.{BadCommand, BadCapacity, BadHex, OutOfMemory}
 
--- what a line says; a subscription is of a program that may read what the profile lets it, and from the latest version
--- on, or from the one that it names
+-- what a line says; a subscription is of a program that these rules accept, and from the latest version on, or from the
+-- one that it names
 pub data Command : Type 0 where
-  subscribe : (profile : Profile) (capacity : ℕ) (digits : List ℕ) (first : Option ℕ) → Command
+  subscribe : (rules : RuleSet) (capacity : ℕ) (digits : List ℕ) (first : Option ℕ) → Command
   pull : (subscriber count : ℕ) → Command
   close : (subscriber : ℕ) → Command
   read : (query : Query) → Command
@@ -52,10 +53,11 @@ pub record OneWord (digits word : List ℕ) : Type 0 where
   pub one : AllByRecursion (λ b. b ≢ 32) digits
 
 -- the word for a subscription
-abbrev pub name_of : Profile → List ℕ
-name_of One = codes "sub"
-name_of Two = codes "sub2"
-name_of Three = codes "sub3"
+abbrev pub name_of : RuleSet → List ℕ
+name_of (Straight One) = codes "sub"
+name_of (Straight Two) = codes "sub2"
+name_of (Straight Three) = codes "sub3"
+name_of Looping = codes "sub4"
 
 -- the word for a look at spans, without or with the keys of the third form of changes
 abbrev pub show_word : Bool → List ℕ
@@ -64,9 +66,9 @@ show_word true = codes "show3"
 
 -- a line, without its LF
 abbrev pub CommandForm : Command → List ℕ → Type 0
-CommandForm (subscribe profile capacity digits None) = Word (name_of profile) ⎵ Number capacity ⎵ OneWord digits
-CommandForm (subscribe profile capacity digits (Some first)) =
-    Word (name_of profile) ⎵ Number capacity ⎵ OneWord digits ⎵ Word (codes "from") ⎵ Number first
+CommandForm (subscribe rules capacity digits None) = Word (name_of rules) ⎵ Number capacity ⎵ OneWord digits
+CommandForm (subscribe rules capacity digits (Some first)) =
+    Word (name_of rules) ⎵ Number capacity ⎵ OneWord digits ⎵ Word (codes "from") ⎵ Number first
 CommandForm (pull subscriber count) = Word (codes "pull") ⎵ Number subscriber ⎵ Count count
 CommandForm (close subscriber) = Word (codes "close") ⎵ Number subscriber
 CommandForm (read Latest) = Word (codes "latest")
@@ -80,12 +82,12 @@ CommandForm (read (Newest node)) = Word (codes "newest") ⎵ Number node
 
 -- What is asked for by what a line says, or why it is refused; the capacity is looked at before the digits.
 abbrev pub Grants : Command → Result SessionRequest LineRefusal → Type 0
-Grants (subscribe profile capacity digits first) (Ok (Subscribe reads room program from)) =
-    (reads ≡ profile) × (room ≡ capacity) × IsCount capacity × (decode_of digits ≡ Ok program.items) × (from ≡ first)
-Grants (subscribe profile capacity digits first) (Err BadCapacity) = ¬ (IsCount capacity)
-Grants (subscribe profile capacity digits first) (Err BadHex) =
+Grants (subscribe rules capacity digits first) (Ok (Subscribe reads room program from)) =
+    (reads ≡ rules) × (room ≡ capacity) × IsCount capacity × (decode_of digits ≡ Ok program.items) × (from ≡ first)
+Grants (subscribe rules capacity digits first) (Err BadCapacity) = ¬ (IsCount capacity)
+Grants (subscribe rules capacity digits first) (Err BadHex) =
     IsCount capacity × ((error : FromHexError) × (decode_of digits ≡ Err error))
-Grants (subscribe profile capacity digits first) (Err OutOfMemory) = IsCount capacity
+Grants (subscribe rules capacity digits first) (Err OutOfMemory) = IsCount capacity
 Grants (pull subscriber count) (Ok (Pull id most)) = (id ≡ subscriber) × (most ≡ count)
 Grants (close subscriber) (Ok (Close id)) = id ≡ subscriber
 Grants (read query) (Ok (Read asked)) = asked ≡ query

@@ -3,8 +3,9 @@ use Rattle.std.specs.Prelude.{ℕ, nat_le, ◌==◌, ◌&&◌, not, Bool, true, 
 use Rattle.std.specs.Prelude.{codes, Option, Some, None}
 use Rattle.std.specs.List.{list_all}
 use Rattle.std.specs.Str.{bytes_eq}
-use Rattle.span_context.specs.declared.profile.Profile.{Profile}
 use Rattle.span_context.specs.declared.profile.Profile.TheVariants.{One, Two, Three}
+use Rattle.filters.specs.declared.rules.RuleSet.{RuleSet}
+use Rattle.filters.specs.declared.rules.RuleSet.TheVariants.{Straight, Looping}
 use Rattle.change_ops.specs.Words.{split, number_in, small}
 use Rattle.change_ops.specs.Reading.{◌>>=◌}
 use Rattle.session_lines.specs.Commands.{Command, subscribe, pull, close, read}
@@ -24,28 +25,28 @@ is_one_word word = nat_le 1 (length word) && list_all (λ b. not (b == 32)) word
 
 -- what a line says, as it is read
 abbrev pub said : LentCommand → Command
-said (Subscribe profile capacity digits first) = subscribe profile capacity digits.now first
+said (Subscribe rules capacity digits first) = subscribe rules capacity digits.now first
 said (Pull subscriber count) = pull subscriber count
 said (Close subscriber) = close subscriber
 said (Read query) = read query
 
-unfoldable pub from_at : Profile → ℕ → List ℕ → Option Command
-from_at profile capacity text = do
+unfoldable pub from_at : RuleSet → ℕ → List ℕ → Option Command
+from_at rules capacity text = do
   parts ← split 32 text
   more ← split 32 parts.1
   first ← small (number_in 10 more.1)
-  if is_one_word parts.0 && bytes_eq more.0 (codes "from") then Some (subscribe profile capacity parts.0 (Some first))
+  if is_one_word parts.0 && bytes_eq more.0 (codes "from") then Some (subscribe rules capacity parts.0 (Some first))
       else None
 
-abbrev pub program_at : Profile → ℕ → List ℕ → Option Command
-program_at profile capacity text =
-    if is_one_word text then Some (subscribe profile capacity text None) else from_at profile capacity text
+abbrev pub program_at : RuleSet → ℕ → List ℕ → Option Command
+program_at rules capacity text =
+    if is_one_word text then Some (subscribe rules capacity text None) else from_at rules capacity text
 
-unfoldable pub subscribe_at : Profile → List ℕ → Option Command
-subscribe_at profile fields = do
+unfoldable pub subscribe_at : RuleSet → List ℕ → Option Command
+subscribe_at rules fields = do
   parts ← split 32 fields
   capacity ← small (number_in 10 parts.0)
-  program_at profile capacity parts.1
+  program_at rules capacity parts.1
 
 unfoldable pub pull_at : List ℕ → Option Command
 pull_at fields = do
@@ -91,9 +92,10 @@ query_at name fields = if bytes_eq name (codes "show") then show_at false fields
 unfoldable pub words_at : List ℕ → Option Command
 words_at line = do
   parts ← split 32 line
-  if bytes_eq parts.0 (codes "sub") then subscribe_at One parts.1 else
-      if bytes_eq parts.0 (codes "sub2") then subscribe_at Two parts.1 else
-      if bytes_eq parts.0 (codes "sub3") then subscribe_at Three parts.1 else
+  if bytes_eq parts.0 (codes "sub") then subscribe_at (Straight One) parts.1 else
+      if bytes_eq parts.0 (codes "sub2") then subscribe_at (Straight Two) parts.1 else
+      if bytes_eq parts.0 (codes "sub3") then subscribe_at (Straight Three) parts.1 else
+      if bytes_eq parts.0 (codes "sub4") then subscribe_at Looping parts.1 else
       if bytes_eq parts.0 (codes "pull") then pull_at parts.1 else
       if bytes_eq parts.0 (codes "close") then close_at parts.1 else query_at parts.0 parts.1
 

@@ -14,6 +14,7 @@ use crate::query::Query;
 use crate::request::SessionRequest;
 use crate::words::{is_one_word, word_of};
 use change_ops::numeral::decimal_number;
+use filters::rules::RuleSet;
 use span_context::profile::Profile;
 use std::alloc::Global;
 
@@ -22,6 +23,8 @@ const SUBSCRIBE: &[u8] = b"sub";
 const SUBSCRIBE_TWO: &[u8] = b"sub2";
 
 const SUBSCRIBE_THREE: &[u8] = b"sub3";
+
+const SUBSCRIBE_FOUR: &[u8] = b"sub4";
 
 const FROM: &[u8] = b"from";
 
@@ -49,7 +52,7 @@ const NEWEST: &[u8] = b"newest";
 #[derive(Clone, Copy)]
 enum LentCommand<'a> {
     Subscribe {
-        profile: Profile,
+        rules: RuleSet,
         capacity: u64,
         digits: &'a [u8],
         first: Option<u64>,
@@ -80,8 +83,8 @@ fn is_few_changes(number: u64) -> bool
 
 /// What follows the capacity of a subscription from a version on.
 #[tactic(auto, unfolding(crate::specs::Reading::from_at))]
-fn from_in(profile: Profile, capacity: u64, text: &[u8]) -> Option<LentCommand<'_>>
-    ensures { option_map said result ≡ from_at profile capacity text.now }
+fn from_in(rules: RuleSet, capacity: u64, text: &[u8]) -> Option<LentCommand<'_>>
+    ensures { option_map said result ≡ from_at rules capacity text.now }
 {
     let (digits, rest) = word_of(text)?;
     let (name, first) = word_of(rest)?;
@@ -90,7 +93,7 @@ fn from_in(profile: Profile, capacity: u64, text: &[u8]) -> Option<LentCommand<'
         return None;
     }
     Some(LentCommand::Subscribe {
-        profile,
+        rules,
         capacity,
         digits,
         first: Some(first),
@@ -98,28 +101,28 @@ fn from_in(profile: Profile, capacity: u64, text: &[u8]) -> Option<LentCommand<'
 }
 
 /// What follows a subscription's capacity.
-fn program_in(profile: Profile, capacity: u64, text: &[u8]) -> Option<LentCommand<'_>>
-    ensures { option_map said result ≡ program_at profile capacity text.now }
+fn program_in(rules: RuleSet, capacity: u64, text: &[u8]) -> Option<LentCommand<'_>>
+    ensures { option_map said result ≡ program_at rules capacity text.now }
 {
     if is_one_word(text) {
         return Some(LentCommand::Subscribe {
-            profile,
+            rules,
             capacity,
             digits: text,
             first: None,
         });
     }
-    from_in(profile, capacity, text)
+    from_in(rules, capacity, text)
 }
 
 /// What follows `sub`, `sub2` or `sub3`.
 #[tactic(auto, unfolding(crate::specs::Reading::subscribe_at))]
-fn subscribe_in(profile: Profile, fields: &[u8]) -> Option<LentCommand<'_>>
-    ensures { option_map said result ≡ subscribe_at profile fields.now }
+fn subscribe_in(rules: RuleSet, fields: &[u8]) -> Option<LentCommand<'_>>
+    ensures { option_map said result ≡ subscribe_at rules fields.now }
 {
     let (capacity, text) = word_of(fields)?;
     let capacity = decimal_number(capacity)?;
-    program_in(profile, capacity, text)
+    program_in(rules, capacity, text)
 }
 
 /// What follows `pull`.
@@ -213,11 +216,13 @@ fn words_in(line: &[u8]) -> Option<LentCommand<'_>>
 {
     let (name, fields) = word_of(line)?;
     if name == SUBSCRIBE {
-        subscribe_in(Profile::One, fields)
+        subscribe_in(RuleSet::Straight(Profile::One), fields)
     } else if name == SUBSCRIBE_TWO {
-        subscribe_in(Profile::Two, fields)
+        subscribe_in(RuleSet::Straight(Profile::Two), fields)
     } else if name == SUBSCRIBE_THREE {
-        subscribe_in(Profile::Three, fields)
+        subscribe_in(RuleSet::Straight(Profile::Three), fields)
+    } else if name == SUBSCRIBE_FOUR {
+        subscribe_in(RuleSet::Looping, fields)
     } else if name == PULL {
         pull_in(fields)
     } else if name == CLOSE {
@@ -271,19 +276,19 @@ fn program_of(alloc: Global, digits: &[u8]) -> Result<Vec<u8>, LineRefusal>
 /// A subscription to a program; the capacity is looked at before the digits.
 fn subscription(
     alloc: Global,
-    profile: Profile,
+    rules: RuleSet,
     capacity: u64,
     digits: &[u8],
     first: Option<u64>,
 ) -> Result<SessionRequest, LineRefusal>
-    ensures { Grants (subscribe profile capacity digits.now first) result }
+    ensures { Grants (subscribe rules capacity digits.now first) result }
 {
     if !is_count(capacity) {
         return Err(LineRefusal::BadCapacity);
     }
     let program = program_of(alloc, digits)?;
     Ok(SessionRequest::Subscribe {
-        profile,
+        rules,
         capacity: capacity as usize,
         program,
         first,
@@ -296,11 +301,11 @@ fn request_of(alloc: Global, command: LentCommand<'_>) -> Result<SessionRequest,
 {
     match command {
         LentCommand::Subscribe {
-            profile,
+            rules,
             capacity,
             digits,
             first,
-        } => subscription(alloc, profile, capacity, digits, first),
+        } => subscription(alloc, rules, capacity, digits, first),
         LentCommand::Pull { subscriber, count } => Ok(SessionRequest::Pull {
             subscriber: subscriber as usize,
             count: count as usize,

@@ -15,7 +15,7 @@ use crate::query::Query;
 use crate::reader::{Arrival, LineReader};
 use change_ops::change::{Change, read_change};
 use change_ops::refusal::ChangeError;
-use span_context::profile::Profile;
+use filters::rules::RuleSet;
 use std::alloc::{AllocError, Global};
 use std::io::Read;
 
@@ -28,9 +28,9 @@ pub enum SessionRequest {
     /// To accept a change.
     Change(Change),
     /// To add a subscriber: with room for 1 to 1,024 items, with bytes that are yet to be looked at as those of a
-    /// program that reads what the profile lets it, and from the latest version on, or from the one with this number.
+    /// program that these rules accept, and from the latest version on, or from the one with this number.
     Subscribe {
-        profile: Profile,
+        rules: RuleSet,
         capacity: usize,
         program: Vec<u8>,
         first: Option<u64>,

@@ -6,10 +6,9 @@ use Rattle.std.proofs.lemmas.Option.{slice_get_read}
 use Rattle.std.specs.declared.alloc.AllocError.{AllocError}
 use Rattle.change_ops.specs.declared.size.Size.{Size}
 use Rattle.change_ops.specs.Sizes.{most_changes}
-use Rattle.span_context.specs.declared.profile.Profile.{Profile}
+use Rattle.filters.specs.declared.rules.RuleSet.{RuleSet}
 use Rattle.bpf_words.specs.Words.{IsProgram, program_of}
 use Rattle.semantics.specs.Step.{Program}
-use Rattle.semantics.specs.Safe.{SafeIn}
 use Rattle.feeds.specs.Orderly.{IsOrderly}
 use Rattle.feeds.specs.Promise.{Promise, IsPromised, Suits}
 use Rattle.subscriber_queues.specs.Queue.{QueueSink, Subscription}
@@ -23,7 +22,7 @@ use Rattle.refusals.specs.declared.reason.Reason.TheVariants as reason
 use Rattle.session_lines.specs.declared.reply.Reply.{Reply}
 use Rattle.session_lines.specs.declared.reply.Reply.TheVariants.{Items, NoItemsFull, Refused}
 use Rattle.session_subscribers.specs.Items.{TakesShort}
-use Rattle.verifier.specs.Decides.{IsAllowed}
+use Rattle.filters.specs.Accepted.{IsAccepted}
 use Rattle.session_subscribers.specs.Holding.{Held, index_in, AreSafe, WasFull, WasNotFull, MakesPullCalls, TellsItems, TakesAll, IsFromHub, Pulls, PullsAny, PullsShort}
 use Rattle.session_subscribers.proofs.PullCalls.{pulls_then, pulls_pump}
 use Rattle.session_subscribers.proofs.Meetings.{from_hub, pulls_more, short_met}
@@ -146,8 +145,8 @@ told_items size v u w reads id count many latest items answer full either look m
     ]
 
 -- the bytes of a program that was accepted
-pub safe_bytes : (profile : Profile) (program : Program) (bytes : List ℕ) → IsProgram bytes × (program ≡ program_of bytes) × SafeIn profile program × IsAllowed profile (program_of bytes) → AreSafe profile bytes
-safe_bytes profile program bytes h = (h.0, subst (SafeIn profile) h.1 h.2, h.3)
+pub safe_bytes : (rule_set : RuleSet) (program : Program) (bytes : List ℕ) → IsProgram bytes × (program ≡ program_of bytes) × IsAccepted rule_set (program_of bytes) → AreSafe rule_set bytes
+safe_bytes rule_set program bytes h = (h.0, h.2)
 
 -- an error that is passed on
 pub passed_on : {T E : Type 0} (r : Result T E) (e : E) (P : E → Type 0) → IsErrAnd r (λ y. y ≡ e) → P e → IfErr r P

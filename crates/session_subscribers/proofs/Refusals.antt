@@ -2,7 +2,7 @@
 use Rattle.std.proofs.Common.{◌≡◌, ℕ, ◌<◌, [], ◌∷◌, List, arith, subst, inr}
 use Rattle.std.specs.Prelude.{Option, None, Some, Err, length}
 use Rattle.change_ops.specs.declared.size.Size.{Size}
-use Rattle.span_context.specs.declared.profile.Profile.{Profile}
+use Rattle.filters.specs.declared.rules.RuleSet.{RuleSet}
 use Rattle.bpf_words.specs.Words.{program_of}
 use Rattle.semantics.specs.Step.{Program}
 use Rattle.version_history.specs.Tokens.{Token}
@@ -33,13 +33,13 @@ module _ (size : Size) where
   not_below n less = omega (arith, less)
 
   -- only where a first version was named it can be one that isn't there
-  lacked_version : (v u w : Seen) (profile : Profile) (capacity : ℕ) (bytes : List ℕ) (first : Option ℕ) (token : Token Program) (sink : QueueSink) → Makes size v [] u → AreSafe profile bytes → token.value ≡ program_of bytes
-      → IsCall size u (subscribing first token sink) (told.Subscribed (Err subscribe.NoVersion)) w → IsNotSubscribed size v w profile capacity bytes first reason.NoVersion
-  lacked_version v u w profile capacity bytes None token sink none safe same made = not_below (length made.old.core.changes) made.records.happens.2
-  lacked_version v u w profile capacity bytes (Some number) token sink none safe same made = (safe, inr (refused_for v u w bytes (Some number) token sink subscribe.NoVersion none same made))
+  lacked_version : (v u w : Seen) (rule_set : RuleSet) (capacity : ℕ) (bytes : List ℕ) (first : Option ℕ) (token : Token Program) (sink : QueueSink) → Makes size v [] u → AreSafe rule_set bytes → token.value ≡ program_of bytes
+      → IsCall size u (subscribing first token sink) (told.Subscribed (Err subscribe.NoVersion)) w → IsNotSubscribed size v w rule_set capacity bytes first reason.NoVersion
+  lacked_version v u w rule_set capacity bytes None token sink none safe same made = not_below (length made.old.core.changes) made.records.happens.2
+  lacked_version v u w rule_set capacity bytes (Some number) token sink none safe same made = (safe, inr (refused_for v u w bytes (Some number) token sink subscribe.NoVersion none same made))
 
-  pub refused_version : (v u w : Seen) (profile : Profile) (capacity : ℕ) (bytes : List ℕ) (first : Option ℕ) (token : Token Program) (sink : QueueSink) (told_error : SubscribeError) → told_error ≡ subscribe.NoVersion
-      → Makes size v [] u → AreSafe profile bytes → token.value ≡ program_of bytes → IsCall size u (subscribing first token sink) (told.Subscribed (Err told_error)) w
-      → IsNotSubscribed size v w profile capacity bytes first reason.NoVersion
-  refused_version v u w profile capacity bytes first token sink told_error is none safe same made =
-      lacked_version v u w profile capacity bytes first token sink none safe same (subst (λ (e : SubscribeError). IsCall size u (subscribing first token sink) (told.Subscribed (Err e)) w) is made)
+  pub refused_version : (v u w : Seen) (rule_set : RuleSet) (capacity : ℕ) (bytes : List ℕ) (first : Option ℕ) (token : Token Program) (sink : QueueSink) (told_error : SubscribeError) → told_error ≡ subscribe.NoVersion
+      → Makes size v [] u → AreSafe rule_set bytes → token.value ≡ program_of bytes → IsCall size u (subscribing first token sink) (told.Subscribed (Err told_error)) w
+      → IsNotSubscribed size v w rule_set capacity bytes first reason.NoVersion
+  refused_version v u w rule_set capacity bytes first token sink told_error is none safe same made =
+      lacked_version v u w rule_set capacity bytes first token sink none safe same (subst (λ (e : SubscribeError). IsCall size u (subscribing first token sink) (told.Subscribed (Err e)) w) is made)

@@ -5,12 +5,10 @@ use Rattle.std.specs.List.{remove}
 use Rattle.std.specs.declared.alloc.AllocError.{AllocError}
 use Rattle.change_ops.specs.declared.size.Size.{Size}
 use Rattle.change_ops.specs.Sizes.{most_changes}
-use Rattle.span_context.specs.declared.profile.Profile.{Profile}
+use Rattle.filters.specs.declared.rules.RuleSet.{RuleSet}
 use Rattle.bpf_words.specs.Words.{IsProgram, IsRefused, program_of}
 use Rattle.semantics.specs.Step.{Program}
-use Rattle.semantics.specs.Safe.{SafeIn}
-use Rattle.verifier.specs.Judged.{Rejects}
-use Rattle.verifier.specs.Decides.{IsAllowed}
+use Rattle.filters.specs.Accepted.{IsAccepted, IsRefused as IsRefusedBy}
 use Rattle.version_history.specs.Tokens.{Token}
 use Rattle.feeds.specs.Orderly.{IsOrderly}
 use Rattle.feeds.specs.Promise.{Promise, IsPromised}
@@ -56,15 +54,14 @@ AreOwnSubscribers v held = All (λ one. IsOwnSubscriber v one.id one.items) held
 abbrev pub promise_of : Size → List ℕ → Option ℕ → Promise
 promise_of size bytes first = record { size = size; program = program_of bytes; first = first }
 
--- the program of these bytes, which the rules allow and each run of which on what the profile lends ends with a
--- number, was subscribed at a hub of this size, by the one call that was made: under this id, with the other end of
--- this queue, which is empty, of this capacity and with that promise, from its first version on
-pub record IsSubscribed (size : Size) (v w : Seen) (profile : Profile) (capacity : ℕ) (bytes : List ℕ)
+-- the program of these bytes, which the rules accept, was subscribed at a hub of this size, by the one call that was
+-- made: under this id, with the other end of this queue, which is empty, of this capacity and with that promise, from
+-- its first version on
+pub record IsSubscribed (size : Size) (v w : Seen) (rules : RuleSet) (capacity : ℕ) (bytes : List ℕ)
     (first : Option ℕ) (id : ℕ) (line : Line) : Type 0
   where
     pub program : IsProgram bytes
-    pub safe : SafeIn profile (program_of bytes)
-    pub allowed : IsAllowed profile (program_of bytes)
+    pub accepted : IsAccepted rules (program_of bytes)
     pub token : Token Program
     pub same : token.value ≡ program_of bytes
     pub calls : Makes size v (called (subscribing first token (record {
@@ -75,9 +72,9 @@ pub record IsSubscribed (size : Size) (v w : Seen) (profile : Profile) (capacity
       sends = true;
     })) (told.Subscribed (Ok id)) ∷ []) w
 
--- the bytes are a program that the rules allow, each run of which on what the profile lends ends with a number
-abbrev pub AreSafe : Profile → List ℕ → Type 0
-AreSafe profile bytes = IsProgram bytes × SafeIn profile (program_of bytes) × IsAllowed profile (program_of bytes)
+-- the bytes are a program that the rules accept
+abbrev pub AreSafe : RuleSet → List ℕ → Type 0
+AreSafe rules bytes = IsProgram bytes × IsAccepted rules (program_of bytes)
 
 -- the one call that was made was refused for this
 abbrev pub IsRefusedFor : Size → Seen → Seen → List ℕ → Option ℕ → SubscribeError → Type 0
@@ -91,42 +88,42 @@ LacksVersion size v w number =
     (u : Seen) × IsLook size v (λ s. ¬ HasNoPlace s) u × IsLook size u (λ s. length s.changes < number) w
 
 -- why it was not. What the hub would refuse whatever the program is, is looked at before a call is made
-abbrev pub IsNotSubscribed : Size → Seen → Seen → Profile → ℕ → List ℕ → Option ℕ → Reason → Type 0
-IsNotSubscribed size v w profile capacity bytes first (reason.Words error) = IsRefused bytes error × (w ≡ v)
-IsNotSubscribed size v w profile capacity bytes first (reason.Unverified error) =
-    IsProgram bytes × Rejects profile (program_of bytes) error × (w ≡ v)
-IsNotSubscribed size v w profile capacity bytes first reason.BadCapacity =
-    AreSafe profile bytes × (¬ IsCapacity capacity) × Makes size v [] w
-IsNotSubscribed size v w profile capacity bytes first reason.SubscribersFull =
-    AreSafe profile bytes × (IsLook size v HasNoPlace w ⊎ IsRefusedFor size v w bytes first subscribe.SubscribersFull)
-IsNotSubscribed size v w profile capacity bytes (Some number) reason.NoVersion =
-    AreSafe profile bytes
+abbrev pub IsNotSubscribed : Size → Seen → Seen → RuleSet → ℕ → List ℕ → Option ℕ → Reason → Type 0
+IsNotSubscribed size v w rules capacity bytes first (reason.Words error) = IsRefused bytes error × (w ≡ v)
+IsNotSubscribed size v w rules capacity bytes first (reason.Unverified error) =
+    IsProgram bytes × IsRefusedBy rules (program_of bytes) error × (w ≡ v)
+IsNotSubscribed size v w rules capacity bytes first reason.BadCapacity =
+    AreSafe rules bytes × (¬ IsCapacity capacity) × Makes size v [] w
+IsNotSubscribed size v w rules capacity bytes first reason.SubscribersFull =
+    AreSafe rules bytes × (IsLook size v HasNoPlace w ⊎ IsRefusedFor size v w bytes first subscribe.SubscribersFull)
+IsNotSubscribed size v w rules capacity bytes (Some number) reason.NoVersion =
+    AreSafe rules bytes
     × (LacksVersion size v w number ⊎ IsRefusedFor size v w bytes (Some number) subscribe.NoVersion)
-IsNotSubscribed size v w profile capacity bytes first reason.OutOfMemory =
-    AreSafe profile bytes × (Makes size v [] w ⊎ IsRefusedFor size v w bytes first subscribe.OutOfMemory)
-IsNotSubscribed size v w profile capacity bytes first _ = ⊥
+IsNotSubscribed size v w rules capacity bytes first reason.OutOfMemory =
+    AreSafe rules bytes × (Makes size v [] w ⊎ IsRefusedFor size v w bytes first subscribe.OutOfMemory)
+IsNotSubscribed size v w rules capacity bytes first _ = ⊥
 
 -- the session may have no subscriber more, and the bytes were looked at first
-abbrev pub IsPastShare : Seen → Seen → Profile → List ℕ → SessionLimits → Reason → Type 0
-IsPastShare v w profile bytes left why =
-    (why ≡ reason.SubscribersFull) × AreSafe profile bytes × IsFalse (takes_subscriber left) × (w ≡ v)
+abbrev pub IsPastShare : Seen → Seen → RuleSet → List ℕ → SessionLimits → Reason → Type 0
+IsPastShare v w rules bytes left why =
+    (why ≡ reason.SubscribersFull) × AreSafe rules bytes × IsFalse (takes_subscriber left) × (w ≡ v)
 
 -- one more is held, with the end of its queue, which has that promise and which nothing was taken from, and the session
 -- has one less left; or the same as before
-abbrev pub Adds : Size → Seen → Seen → Profile → ℕ → List ℕ → Option ℕ → SessionLimits → List Held → Reply
+abbrev pub Adds : Size → Seen → Seen → RuleSet → ℕ → List ℕ → Option ℕ → SessionLimits → List Held → Reply
     → SessionLimits → List Held → Type 0
-Adds size v w profile capacity bytes first left held (reply.Subscribed id) left' held' =
+Adds size v w rules capacity bytes first left held (reply.Subscribed id) left' held' =
     (line : Line) × (held' ≡ held
     ++ record {
       id = id;
       items = record { line = line; promise = Some (promise_of size bytes first); taken = []; shown = [] };
     } ∷ [])
-    × IsSubscribed size v w profile capacity bytes first id line
+    × IsSubscribed size v w rules capacity bytes first id line
     × IsTrue (takes_subscriber left) × (left' ≡ after_subscriber left)
-Adds size v w profile capacity bytes first left held (reply.Refused why) left' held' =
+Adds size v w rules capacity bytes first left held (reply.Refused why) left' held' =
     (held' ≡ held) × (left' ≡ left)
-    × (IsNotSubscribed size v w profile capacity bytes first why ⊎ IsPastShare v w profile bytes left why)
-Adds size v w profile capacity bytes first left held _ left' held' = ⊥
+    × (IsNotSubscribed size v w rules capacity bytes first why ⊎ IsPastShare v w rules bytes left why)
+Adds size v w rules capacity bytes first left held _ left' held' = ⊥
 
 -- the one with the id is closed at the hub, by the one call that was made, and held no more, and the others are; or
 -- none had it. Where the hub had it as closed, the call is refused

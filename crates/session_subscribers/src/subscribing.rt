@@ -1,28 +1,28 @@
 ghost use Rattle.std.specs.Prelude.{◌≡◌, ℕ, true, List, Option, Some, [], Ok, IfOk, IfErr, OnOk};
 ghost use Rattle.change_ops.specs.declared.size.Size.{Size as TheSize};
 ghost use Rattle.bpf_words.specs.Words.{IsProgram, program_of};
-ghost use Rattle.span_context.specs.declared.profile.Profile.{Profile as TheProfile};
-ghost use Rattle.semantics.specs.Safe.{SafeIn};
+ghost use Rattle.filters.specs.Accepted.{IsAccepted};
+ghost use Rattle.filters.specs.declared.rules.RuleSet.{RuleSet as TheRules};
 ghost use Rattle.hub_core.specs.declared.run.Reply.TheVariants as told;
 ghost use Rattle.core_history.specs.Hubs.{Seen};
 ghost use Rattle.ingest_workers.specs.Calls.{Makes, IsCall, subscribing};
-ghost use Rattle.verifier.specs.Decides.{IsAllowed};
 ghost use Rattle.session_subscribers.specs.Holding.{AreSafe, IsNotSubscribed, Adds, Closes};
 
 use crate::session_hub::{Held, SessionHub, index_of};
 use bpf_words::words::Words;
 use call_history::knowledge::HistoryNaming;
 use core_history::share::Share;
+use filters::accept::accept;
+use filters::filter::Filter;
+use filters::rules::RuleSet;
 use hub_core::error::SubscribeError;
 use hub_requests::limits::SessionLimits;
 use refusals::reason::Reason;
 use session_lines::reply::Reply;
-use span_context::profile::Profile;
 use std::alloc::Global;
 use std::sync::Wait;
 use std::sync::ledger::Ledger;
 use subscriber_queues::ends::{QueueError, QueueSink, Subscription, queue_for};
-use verifier::verify::{Verified, verify};
 use version_history::published::{Naming, ProgramToken};
 
 /// The two ends of a queue, with the promise of this program's stream.
@@ -30,7 +30,7 @@ fn ends<N: Naming, R: Wait + Copy>(
     rt: R,
     alloc: Global,
     capacity: usize,
-    program: &Verified,
+    program: &Filter,
     first: Option<u64>,
 ) -> Result<(QueueSink<N, R>, Subscription<N, R>), Reason>
     ensures sink { IfOk result (λ q. (q.0.sent ≡ []) × (q.0.capacity ≡ capacity)
@@ -43,8 +43,8 @@ fn ends<N: Naming, R: Wait + Copy>(
           taken = [];
           shown = [];
         }) }
-    ensures err { IfErr result (λ why. (v : Seen) (w : Seen) (profile : TheProfile) (bytes : List ℕ) (from : Option ℕ)
-        → AreSafe profile bytes → Makes N.size v [] w → IsNotSubscribed N.size v w profile capacity bytes from why) }
+    ensures err { IfErr result (λ why. (v : Seen) (w : Seen) (rules : TheRules) (bytes : List ℕ) (from : Option ℕ)
+        → AreSafe rules bytes → Makes N.size v [] w → IsNotSubscribed N.size v w rules capacity bytes from why) }
 {
     match queue_for(rt, alloc, capacity, program, first) {
         Ok(ends) => Ok(ends),
@@ -53,18 +53,18 @@ fn ends<N: Naming, R: Wait + Copy>(
     }
 }
 
-/// The program of these bytes, accepted by what the profile lets it read.
-fn accepted(alloc: Global, profile: Profile, bytes: &[u8]) -> Result<Verified, Reason>
+/// The filter that the program of these bytes is, accepted by these rules.
+fn accepted(alloc: Global, rules: RuleSet, bytes: &[u8]) -> Result<Filter, Reason>
     ensures ok { IfOk result (λ program. IsProgram bytes.now × (program ≡ program_of bytes.now)
-        × SafeIn profile program × IsAllowed profile (program_of bytes.now)) }
+        × IsAccepted rules (program_of bytes.now)) }
     ensures err { IfErr result (λ why. (size : TheSize) (v : Seen) (capacity : ℕ) (first : Option ℕ)
-        → IsNotSubscribed size v v profile capacity bytes.now first why) }
+        → IsNotSubscribed size v v rules capacity bytes.now first why) }
 {
     let words = match Words::new(bytes) {
         Ok(words) => words,
         Err(error) => return Err(Reason::Words(error)),
     };
-    match verify(alloc, &words, profile) {
+    match accept(alloc, &words, rules) {
         Ok(program) => Ok(program),
         Err(error) => Err(Reason::Unverified(error)),
     }
@@ -72,7 +72,7 @@ fn accepted(alloc: Global, profile: Profile, bytes: &[u8]) -> Result<Verified, R
 
 impl<N: Naming + HistoryNaming + Ledger, R: Wait + Copy> SessionHub<'_, '_, N, R> {
     /// The token of a program, which is published.
-    fn publish(&self, program: Verified) -> Result<ProgramToken<N>, Reason>
+    fn publish(&self, program: Filter) -> Result<ProgramToken<N>, Reason>
         ensures ok { IfOk result (λ token. token.value ≡ program) }
         ensures err { IfErr result (λ why. why ≡ Reason.OutOfMemory) }
     {
@@ -85,9 +85,9 @@ impl<N: Naming + HistoryNaming + Ledger, R: Wait + Copy> SessionHub<'_, '_, N, R
     /// Refuses what the hub would refuse whatever the program is.
     fn check(&self, share: &mut Share<N>, first: Option<u64>) -> Result<(), Reason>
         ensures ok { OnOk result (Makes N.size share.old [] share.new) }
-        ensures err { IfErr result (λ why. (profile : TheProfile) (capacity : ℕ) (bytes : List ℕ)
-            → AreSafe profile bytes
-            → IsNotSubscribed N.size share.old share.new profile capacity bytes first why) }
+        ensures err { IfErr result (λ why. (rules : TheRules) (capacity : ℕ) (bytes : List ℕ)
+            → AreSafe rules bytes
+            → IsNotSubscribed N.size share.old share.new rules capacity bytes first why) }
     {
         if self.hub.is_full(&self.rt, share) {
             return Err(Reason::SubscribersFull);
@@ -133,9 +133,9 @@ impl<N: Naming + HistoryNaming + Ledger, R: Wait + Copy> SessionHub<'_, '_, N, R
         requires promise { sink.promise ≡ Some (record { size = N.size; program = token.value; first = first }) }
         ensures ok { IfOk result (λ id. IsCall N.size share.old (subscribing first token sink) (told.Subscribed (Ok id))
             share.new) }
-        ensures err { IfErr result (λ why. (v : Seen) (profile : TheProfile) (capacity : ℕ) (bytes : List ℕ)
-            → Makes N.size v [] share.old → AreSafe profile bytes → token.value ≡ program_of bytes
-            → IsNotSubscribed N.size v share.new profile capacity bytes first why) }
+        ensures err { IfErr result (λ why. (v : Seen) (rules : TheRules) (capacity : ℕ) (bytes : List ℕ)
+            → Makes N.size v [] share.old → AreSafe rules bytes → token.value ≡ program_of bytes
+            → IsNotSubscribed N.size v share.new rules capacity bytes first why) }
     {
         match self.subscribed(share, token, sink, first) {
             Ok(id) => Ok(id),
@@ -155,17 +155,17 @@ impl<N: Naming + HistoryNaming + Ledger, R: Wait + Copy> SessionHub<'_, '_, N, R
         share: &mut Share<N>,
         held: &mut Vec<Held<N, R>>,
         left: &mut SessionLimits,
-        profile: Profile,
+        rules: RuleSet,
         capacity: usize,
         bytes: &[u8],
         first: Option<u64>,
     ) -> Result<usize, Reason>
-        ensures ok { IfOk result (λ id. Adds N.size share.old share.new profile capacity bytes.now first left.old
+        ensures ok { IfOk result (λ id. Adds N.size share.old share.new rules capacity bytes.now first left.old
             held.old.items (Reply.Subscribed id) left.new held.new.items) }
-        ensures err { IfErr result (λ why. Adds N.size share.old share.new profile capacity bytes.now first left.old
+        ensures err { IfErr result (λ why. Adds N.size share.old share.new rules capacity bytes.now first left.old
             held.old.items (Reply.Refused why) left.new held.new.items) }
     {
-        let program = accepted(self.alloc, profile, bytes)?;
+        let program = accepted(self.alloc, rules, bytes)?;
         if !left.takes_subscriber() {
             return Err(Reason::SubscribersFull);
         }
@@ -181,22 +181,22 @@ impl<N: Naming + HistoryNaming + Ledger, R: Wait + Copy> SessionHub<'_, '_, N, R
         Ok(id)
     }
 
-    /// Adds a subscriber, unless the session has none left: its program and what it may read, how many items may wait
-    /// for it, and its first version, the latest where none is named.
+    /// Adds a subscriber, unless the session has none left: its program and the rules that accept it, how many items
+    /// may wait for it, and its first version, the latest where none is named.
     pub fn subscribe(
         &self,
         share: &mut Share<N>,
         held: &mut Vec<Held<N, R>>,
         left: &mut SessionLimits,
-        profile: Profile,
+        rules: RuleSet,
         capacity: usize,
         bytes: &[u8],
         first: Option<u64>,
     ) -> Reply
-        ensures { Adds N.size share.old share.new profile capacity bytes.now first left.old held.old.items result
+        ensures { Adds N.size share.old share.new rules capacity bytes.now first left.old held.old.items result
             left.new held.new.items }
     {
-        match self.add(share, held, left, profile, capacity, bytes, first) {
+        match self.add(share, held, left, rules, capacity, bytes, first) {
             Ok(id) => Reply::Subscribed(id),
             Err(reason) => Reply::Refused(reason),
         }

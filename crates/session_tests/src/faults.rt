@@ -6,6 +6,7 @@ use call_history::knowledge::HistoryNaming;
 use change_keeping::keeper::NoStore;
 use change_ops::size::Size;
 use core_history::start::Start;
+use filters::filter::Filter;
 use hub_requests::limits::SessionOptions;
 use hub_sessions::conversation::{SessionFault, session};
 use ingest_workers::hub::Hub;
@@ -16,7 +17,6 @@ use std::sync::ledger::Ledger;
 use std::test::Fail;
 use std::thread::Threads;
 use test_inputs::devices::{FailingReader, FailingWriter};
-use verifier::verify::Verified;
 use version_history::published::{Naming, Published};
 use version_pieces::version::PieceVersion;
 
@@ -58,7 +58,7 @@ fn tried_on<
     alloc: Global,
     start: Start,
     versions: &boxcar::Vec<PieceVersion>,
-    programs: &boxcar::Vec<Verified>,
+    programs: &boxcar::Vec<Filter>,
     reads: usize,
     writes: usize,
 ) -> Result<Outcome, Fail>

@@ -6,6 +6,7 @@ use call_history::knowledge::HistoryNaming;
 use change_keeping::keeper::NoStore;
 use change_ops::size::Size;
 use core_history::start::Start;
+use filters::filter::Filter;
 use hub_requests::limits::SessionOptions;
 use hub_sessions::conversation::session;
 use ingest_workers::hub::Hub;
@@ -17,7 +18,6 @@ use std::sync::Wait;
 use std::sync::ledger::Ledger;
 use std::test::*;
 use std::thread::Threads;
-use verifier::verify::Verified;
 use version_history::published::{Naming, Published};
 use version_pieces::version::PieceVersion;
 
@@ -61,7 +61,7 @@ fn two_subscribed<
     alloc: Global,
     start: Start,
     versions: &boxcar::Vec<PieceVersion>,
-    programs: &boxcar::Vec<Verified>,
+    programs: &boxcar::Vec<Filter>,
 ) -> Result<(), Fail>
     requires named { (Small ≡ N.size) × (versions.now ≡ N.versions) × (programs.now ≡ N.programs) }
     requires start { (start.name ≡ N.name) × (start.table ≡ N.table) × (start.parts ≡ N.parts) × (N.parts ≡ 2) }

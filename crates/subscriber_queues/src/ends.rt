@@ -10,13 +10,13 @@ use crate::rule::{Ends, Knows, Line, Room, Sends, Shows, Takes, Whole};
 use crossbeam_queue::Pass;
 use feeds::item::Item;
 use feeds::sink::Sink;
+use filters::filter::Filter;
 use refusal_titles::{BAD_CAPACITY, OUT_OF_MEMORY};
 use std::alloc::{AllocError, Global};
 use std::marker::{Brand, Model};
 use std::mem;
 use std::sync::{Arc, Wait};
 use thiserror::Error;
-use verifier::verify::Verified;
 use version_history::published::Naming;
 
 /// The most items that may wait in a queue.
@@ -290,7 +290,7 @@ pub fn queue_for<N: Naming, R: Wait + Copy>(
     rt: R,
     alloc: Global,
     capacity: usize,
-    program: &Verified,
+    program: &Filter,
     first: Option<u64>,
 ) -> Result<(QueueSink<N, R>, Subscription<N, R>), QueueError>
     ensures sink { IfOk result (λ q. (q.0.sent ≡ []) × (q.0.capacity ≡ capacity)
@@ -314,7 +314,7 @@ fn promised<N: Naming, R: Wait + Copy, C: Room>(
     rt: R,
     alloc: Global,
     capacity: usize,
-    program: &Verified,
+    program: &Filter,
     first: Option<u64>,
 ) -> Result<(QueueSink<N, R>, Subscription<N, R>), QueueError>
     requires room { capacity ≡ C.room }

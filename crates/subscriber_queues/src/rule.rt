@@ -2,16 +2,16 @@ use change_ops::size::Size;
 use crossbeam_queue::RuledArrayQueue;
 use crossbeam_queue::protocol::{Join, Lesson, Outcome, Protocol, Split};
 use feeds::item::Item;
+use filters::filter::Filter;
 use std::collections::LinkedList;
 use std::marker::{Brand, Model, PhantomData};
-use verifier::verify::Verified;
 use version_history::published::Naming;
 
 /// What is promised of all that a queue is sent: the stream of a program over changes that are accepted at a size, from
 /// this version on. No value of it is made.
 pub struct Promise {
     size: Size,
-    program: Verified,
+    program: Filter,
     first: Option<u64>,
 }
 

@@ -12,6 +12,7 @@ use change_ops::change::{Change, read_change};
 use change_ops::size::Size;
 use feeds::item::Job;
 use feeds::sink::ListSink;
+use filters::filter::Filter;
 use hub_core::error::{CommitError, NoSubscriber, SubscribeError};
 use hub_core::hub::Core;
 use hub_core::run::{Event, Reply, run_events};
@@ -19,7 +20,6 @@ use ingest_workers::ingest::HubError;
 use std::alloc::{AllocError, Global};
 use std::marker::Brand;
 use std::sync::Wait;
-use verifier::verify::Verified;
 use version_history::published::{Naming, ProgramToken, Published, VersionToken};
 use version_pieces::version::PieceVersion;
 
@@ -44,7 +44,7 @@ fn on_lists<N: Naming, R: Wait>(
     rt: &R,
     alloc: Global,
     versions: &boxcar::Vec<PieceVersion>,
-    programs: &boxcar::Vec<Verified>,
+    programs: &boxcar::Vec<Filter>,
     lines: String,
     told: &mut String,
 ) -> Result<(), AllocError>

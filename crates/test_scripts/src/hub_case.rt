@@ -14,6 +14,7 @@ use change_ops::size::Size;
 use core_history::share::Share;
 use core_history::start::Start;
 use filter_workers::work::Worker;
+use filters::filter::Filter;
 use ingest_workers::hub::Hub;
 use ingest_workers::ingest::settle;
 use std::alloc::{AllocError, Global};
@@ -22,7 +23,6 @@ use std::sync::ledger::Ledger;
 use std::sync::{Mutex, Wait};
 use std::thread::Threads;
 use subscriber_queues::ends::Subscription;
-use verifier::verify::Verified;
 use version_history::published::{Naming, Published};
 use version_pieces::version::PieceVersion;
 
@@ -104,7 +104,7 @@ fn on_lists<
     alloc: Global,
     start: Start,
     versions: &boxcar::Vec<PieceVersion>,
-    programs: &boxcar::Vec<Verified>,
+    programs: &boxcar::Vec<Filter>,
     shares: usize,
     lines: String,
     told: &mut String,

@@ -1,14 +1,16 @@
 use bpf_words::words::Words;
+use filters::accept::accept;
+use filters::filter::Filter;
+use filters::rules::RuleSet;
 use span_context::profile::Profile;
 use std::alloc::{AllocError, Global};
 use std::sync::Wait;
-use verifier::verify::{Verified, verify};
 use version_history::published::{Naming, ProgramToken, Published};
 
-fn verified_program(alloc: Global, digits: &str) -> Option<Verified> {
+fn verified_program(alloc: Global, digits: &str) -> Option<Filter> {
     let bytes = hex::decode(alloc, digits).ok()?;
     let words = Words::new(bytes.as_slice()).ok()?;
-    verify(alloc, &words, Profile::One).ok()
+    accept(alloc, &words, RuleSet::Straight(Profile::One)).ok()
 }
 
 /// Publishes the program of these digits.

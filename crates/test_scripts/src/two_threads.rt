@@ -7,6 +7,7 @@ use call_history::knowledge::HistoryNaming;
 use change_ops::size::Size;
 use core_history::share::Share;
 use core_history::start::Start;
+use filters::filter::Filter;
 use ingest_workers::hub::Hub;
 use ingest_workers::ingest::settle;
 use std::alloc::{AllocError, Global};
@@ -14,7 +15,6 @@ use std::marker::Brand;
 use std::sync::Wait;
 use std::sync::ledger::Ledger;
 use std::thread::{Threads, join};
-use verifier::verify::Verified;
 use version_history::published::{Naming, Published};
 use version_pieces::version::PieceVersion;
 
@@ -102,7 +102,7 @@ fn on_lists<
     alloc: Global,
     start: Start,
     versions: &'p boxcar::Vec<PieceVersion>,
-    programs: &'p boxcar::Vec<Verified>,
+    programs: &'p boxcar::Vec<Filter>,
     changes: u64,
     told: &mut String,
 ) -> Result<(), AllocError>

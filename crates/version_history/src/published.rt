@@ -7,9 +7,9 @@ ghost use Rattle.version_history.specs.Links.{HaveLinks};
 use crate::links::keep_links;
 use boxcar::Pushed;
 use change_ops::size::Size;
+use filters::filter::Filter;
 use std::marker::{Brand, Model, PhantomData};
 use std::sync::Wait;
-use verifier::verify::Verified;
 use version_pieces::alike::Alike;
 use version_pieces::version::{NextVersion, PieceVersion};
 
@@ -117,7 +117,7 @@ impl<N: Naming> VersionToken<N> {
 /// Shows that a program, of which every run ends with a number, is in the list of the hub `N`, at its index, for
 /// good.
 pub struct ProgramToken<N: Naming> {
-    at: Pushed<Verified>,
+    at: Pushed<Filter>,
     of: PhantomData<N>,
 }
 
@@ -130,22 +130,22 @@ impl<N: Naming> Drop for ProgramToken<N> {
 impl<N: Naming> Model for ProgramToken<N> {
     ghost use Rattle.boxcar.specs.Table.{Shows};
     ghost use Rattle.version_history.specs.Tokens.{Token};
-    ghost use Rattle.semantics.specs.Safe.{Safe};
+    ghost use Rattle.filters.specs.Filters.{IsFilter};
     ghost use Rattle.semantics.specs.Step.{Program};
 
     ghost Value = { Token Program };
 
     ghost view = { λ t. record { index = t.at.index; value = t.at.value } };
 
-    ghost invariant = { λ t. Shows N.programs t.at × Safe t.at.value };
+    ghost invariant = { λ t. Shows N.programs t.at × IsFilter t.at.value };
 }
 
 impl<N: Naming> ProgramToken<N> {
-    ghost use Rattle.semantics.specs.Safe.{Safe};
+    ghost use Rattle.filters.specs.Filters.{IsFilter};
 
     /// The law that every run of the program ends with a number.
     pub fn every_run_ends(&self)
-        ensures { Safe self.now.value }
+        ensures { IsFilter self.now.value }
     {
         let _at = &self.at;
     }
@@ -166,7 +166,7 @@ impl<N: Naming> ProgramToken<N> {
 pub struct Published<'p, N: Naming> {
     size: Size,
     versions: &'p boxcar::Vec<PieceVersion>,
-    programs: &'p boxcar::Vec<Verified>,
+    programs: &'p boxcar::Vec<Filter>,
     of: PhantomData<N>,
     ghost named: { (size ≡ N.size) × (versions.now ≡ N.versions) × (programs.now ≡ N.programs) },
 }
@@ -176,7 +176,7 @@ impl<'p, N: Naming> Published<'p, N> {
     pub fn new(
         size: Size,
         versions: &'p boxcar::Vec<PieceVersion>,
-        programs: &'p boxcar::Vec<Verified>,
+        programs: &'p boxcar::Vec<Filter>,
     ) -> Published<'p, N>
         requires { (size ≡ N.size) × (versions.now ≡ N.versions) × (programs.now ≡ N.programs) }
     {
@@ -297,13 +297,13 @@ impl<'p, N: Naming> Published<'p, N> {
     pub fn publish_program<R: Wait>(
         &self,
         rt: &R,
-        program: Verified,
-    ) -> Result<ProgramToken<N>, Verified>
+        program: Filter,
+    ) -> Result<ProgramToken<N>, Filter>
         ensures ok { IfOk result (λ t. t.value ≡ program) }
         ensures err { IfErr result (λ p. p ≡ program) }
     {
         // For the clause that every run of the program ends.
-        let _rows = program.rows();
+        program.every_run_ends();
         let at = self.programs.push_shown(rt, program)?;
         Ok(ProgramToken {
             at,
@@ -312,7 +312,7 @@ impl<'p, N: Naming> Published<'p, N> {
     }
 
     /// The program of a token.
-    pub fn program(&self, token: &ProgramToken<N>) -> &Verified
+    pub fn program(&self, token: &ProgramToken<N>) -> &Filter
         ensures { result.now ≡ token.now.value }
     {
         self.programs.value(&token.at)

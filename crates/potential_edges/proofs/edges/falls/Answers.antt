@@ -10,7 +10,7 @@ returns-in-Some-clause-rule c =
 
 pub returns-in-Some-clause-sound : goal.returns-in-Some-clause-sound
 returns-in-Some-clause-sound c = λ yes.
-    let whole : IsWhole c.args.state.now
+    let whole : IsWhole c.args.state.now.state
     = record { registers = c.is_whole.ensures.registers; stack = c.is_whole.ensures.stack } in
     let other : IsWhole c.args.behind.now
     = record { registers = c.is_whole-2.ensures.registers; stack = c.is_whole-2.ensures.stack } in

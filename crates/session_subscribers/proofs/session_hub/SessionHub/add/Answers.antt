@@ -17,34 +17,34 @@ returns-in_err-program-clause-err g c =
 
 pub returns-in_err-check-clause-err : goal.returns-in_err-check-clause-err
 returns-in_err-check-clause-err g c =
-    let safe = safe_bytes c.args.profile c.in_ok-program.program c.args.bytes.now c.in_ok-program.ensures.ok in
-    passed_on c.from_residual-in_err-check.result c.in_err-check.field-0.0 _ c.from_residual-in_err-check.ensures.1 (refl, refl, inl (c.in_err-check.ensures.err c.args.profile c.args.capacity c.args.bytes.now safe))
+    let safe = safe_bytes c.args.rules c.in_ok-program.program c.args.bytes.now c.in_ok-program.ensures.ok in
+    passed_on c.from_residual-in_err-check.result c.in_err-check.field-0.0 _ c.from_residual-in_err-check.ensures.1 (refl, refl, inl (c.in_err-check.ensures.err c.args.rules c.args.capacity c.args.bytes.now safe))
 
 pub returns-then-not-takes_subscriber-clause-err : goal.returns-then-not-takes_subscriber-clause-err
 returns-then-not-takes_subscriber-clause-err g c =
     let past : IsFalse (takes_subscriber c.args.left.now) = search rules in
-    (refl, refl, inr (refl, safe_bytes c.args.profile c.in_ok-program.program c.args.bytes.now c.in_ok-program.ensures.ok, past, refl))
+    (refl, refl, inr (refl, safe_bytes c.args.rules c.in_ok-program.program c.args.bytes.now c.in_ok-program.ensures.ok, past, refl))
 
 pub returns-then-is_err-clause-err : goal.returns-then-is_err-clause-err
 returns-then-is_err-clause-err g c =
-    (c.reserve.ensures.items, refl, inl (safe_bytes c.args.profile c.in_ok-program.program c.args.bytes.now c.in_ok-program.ensures.ok, inl c.in_ok-check.ensures.ok))
+    (c.reserve.ensures.items, refl, inl (safe_bytes c.args.rules c.in_ok-program.program c.args.bytes.now c.in_ok-program.ensures.ok, inl c.in_ok-check.ensures.ok))
 
 pub returns-in_err-sink-clause-err : goal.returns-in_err-sink-clause-err
 returns-in_err-sink-clause-err g c =
     passed_on c.from_residual-in_err-sink.result c.in_err-sink.field-0.0 _ c.from_residual-in_err-sink.ensures.1
-    (c.reserve.ensures.items, refl, inl (c.in_err-sink.ensures.err _ _ c.args.profile c.args.bytes.now c.args.first (safe_bytes c.args.profile c.in_ok-program.program c.args.bytes.now c.in_ok-program.ensures.ok) c.in_ok-check.ensures.ok))
+    (c.reserve.ensures.items, refl, inl (c.in_err-sink.ensures.err _ _ c.args.rules c.args.bytes.now c.args.first (safe_bytes c.args.rules c.in_ok-program.program c.args.bytes.now c.in_ok-program.ensures.ok) c.in_ok-check.ensures.ok))
 
 pub returns-in_err-token-clause-err : goal.returns-in_err-token-clause-err
 returns-in_err-token-clause-err g c =
-    let safe = safe_bytes c.args.profile c.in_ok-program.program c.args.bytes.now c.in_ok-program.ensures.ok in
+    let safe = safe_bytes c.args.rules c.in_ok-program.program c.args.bytes.now c.in_ok-program.ensures.ok in
     passed_on c.from_residual-in_err-token.result c.in_err-token.field-0.0 _ c.from_residual-in_err-token.ensures.1
-    (c.reserve.ensures.items, refl, inl (subst (IsNotSubscribed g.N.Naming.size _ _ c.args.profile c.args.capacity c.args.bytes.now c.args.first) (sym c.in_err-token.ensures.err) (safe, inl c.in_ok-check.ensures.ok)))
+    (c.reserve.ensures.items, refl, inl (subst (IsNotSubscribed g.N.Naming.size _ _ c.args.rules c.args.capacity c.args.bytes.now c.args.first) (sym c.in_err-token.ensures.err) (safe, inl c.in_ok-check.ensures.ok)))
 
 pub returns-in_err-id-clause-err : goal.returns-in_err-id-clause-err
 returns-in_err-id-clause-err g c =
-    let safe = safe_bytes c.args.profile c.in_ok-program.program c.args.bytes.now c.in_ok-program.ensures.ok in
+    let safe = safe_bytes c.args.rules c.in_ok-program.program c.args.bytes.now c.in_ok-program.ensures.ok in
     passed_on c.from_residual-in_err-id.result c.in_err-id.field-0.0 _ c.from_residual-in_err-id.ensures.1
-    (c.reserve.ensures.items, refl, inl (c.in_err-id.ensures.err _ c.args.profile c.args.capacity c.args.bytes.now c.in_ok-check.ensures.ok safe (c.in_ok-token.ensures.ok ∙ c.in_ok-program.ensures.ok.1)))
+    (c.reserve.ensures.items, refl, inl (c.in_err-id.ensures.err _ c.args.rules c.args.capacity c.args.bytes.now c.in_ok-check.ensures.ok safe (c.in_ok-token.ensures.ok ∙ c.in_ok-program.ensures.ok.1)))
 
 pub id_at_hub-requires-clause-promise : goal.id_at_hub-requires-clause-promise
 id_at_hub-requires-clause-promise g c =
@@ -59,13 +59,12 @@ returns-clause-ok g c =
     let held : c.push_reserved.new.self.items ≡ c.args.held.now.items ++ record { id = c.in_ok-id.id; items = record { line = queue.line; promise = Some (record { size = g.N.Naming.size; program = c.in_ok-program.program; first = c.args.first }); taken = []; shown = [] } } ∷ [] = search rules in
     let one = held ∙ ap (λ (p : Program). c.args.held.now.items ++ record { id = c.in_ok-id.id; items = record { line = queue.line; promise = Some (record { size = g.N.Naming.size; program = p; first = c.args.first }); taken = []; shown = [] } } ∷ [])
     c.in_ok-program.ensures.ok.1 in
-    let safe = safe_bytes c.args.profile c.in_ok-program.program c.args.bytes.now c.in_ok-program.ensures.ok in (
+    let safe = safe_bytes c.args.rules c.in_ok-program.program c.args.bytes.now c.in_ok-program.ensures.ok in (
       queue.line,
       one,
       record {
         program = safe.0;
-        safe = safe.1;
-        allowed = safe.2;
+        accepted = safe.1;
         token = c.in_ok-token.token;
         same = c.in_ok-token.ensures.ok ∙ c.in_ok-program.ensures.ok.1;
         calls = subst (λ (q : QueueSink). Makes g.N.Naming.size c.args.share.now (called (subscribing c.args.first c.in_ok-token.token q) (told.Subscribed (Ok c.in_ok-id.id)) ∷ []) c.id_at_hub.new.share)

@@ -4,4 +4,4 @@ use Rattle.version_history.proofs.published.Published.publish_program.Goals as g
 
 -- src/published.rt: Published::publish_program
 pub invariant_of-result : goal.invariant_of-result
-invariant_of-result g c = (search rules, safe_as c.in_ok-at.at.value c.args.program c.in_ok-at.ensures.0.1 c.rows-rows.ensures.safe)
+invariant_of-result g c = (search rules, safe_as c.in_ok-at.at.value c.args.program c.in_ok-at.ensures.0.1 c.every_run_ends.ensures)

@@ -1,0 +1,14 @@
+use Rattle.std.proofs.Common.{◌≡◌, ℕ, ◌≤◌, ◌∙◌, length, sym, ap, subst, arith}
+use Rattle.semantics.specs.Step.{Program}
+use Rattle.filters.specs.Codes.{program_in}
+use Rattle.filters.specs.Filters.{DeterminesRuns}
+use Rattle.filters.proofs.Ends.{straight_reads}
+use Rattle.filters.proofs.filter.Filter.reads.Goals as goal
+
+pub returns-in-Straight : goal.returns-in-Straight
+returns-in-Straight c =
+    let same : c.in-Straight.program ≡ c.args.self.now = sym (ap program_in c.in-Straight.is) ∙ c.self.view_is in
+    let few : length c.rows.result.now ≤ 4096 = omega (arith, c.len-rows.ensures.value, c.len-rows.ensures.few) in
+    let short = subst (λ (program : Program). length program ≤ 4096) c.rows.ensures.program few in
+    subst (λ (program : Program). DeterminesRuns c.reads.result program) same
+    (straight_reads c.in-Straight.program c.reads.result short c.rows.ensures.safe c.reads.ensures)

@@ -1,0 +1,33 @@
+use Rattle.std.proofs.Common.{◌≡◌, ℕ, List}
+use Rattle.refusals.specs.declared.reason.Reason.TheVariants.{BadHex, Words}
+use Rattle.hub_commands.specs.Answers.{Answer}
+use Rattle.hub_commands.specs.Digits.{AreDigits}
+use Rattle.hub_commands.specs.Hexadecimal.{without_blanks}
+use Rattle.hub_commands.specs.Loops.{IsDetailedReply, IsLoopsCheckReply}
+use Rattle.hub_commands.specs.Programs.{no_hex}
+use Rattle.hub_commands.specs.Reasons.{refusal}
+use Rattle.hub_commands.proofs.Replies.{mapped, first_refused, first_answered}
+use Rattle.hub_commands.proofs.check_loops.loops_answer.Goals as goal
+
+pub returns-in_default : goal.returns-in_default
+unfolding IsLoopsCheckReply
+returns-in_default c =
+    mapped (λ (reply : Answer). reply ≡ refusal BadHex) (λ (reply : Answer). (input : List ℕ) → AreDigits (without_blanks input) c.args.digits.now → IsLoopsCheckReply input reply)
+    c.refused.result c.refused.ensures (λ reply e input are. let none = (rw c.in_default.is at c.in_ok-bytes.ensures) (without_blanks input) are in no_hex none.0 none.1 e)
+
+pub returns-in-Ok : goal.returns-in-Ok
+unfolding IsLoopsCheckReply
+returns-in-Ok c =
+    let right = c.in-Ok.ensures.value in
+    mapped (IsDetailedReply c.in-Ok.words) (λ (reply : Answer). (input : List ℕ) → AreDigits (without_blanks input) c.args.digits.now → IsLoopsCheckReply input reply)
+    c.detailed_answer.result c.detailed_answer.ensures
+    (λ reply answered input are. let stand = (rw c.in-Some.is at c.in_ok-bytes.ensures) (without_blanks input) are in
+    first_answered IsDetailedReply (without_blanks input) c.in-Some.bytes.items c.deref.result.now reply stand c.deref.ensures.value right.1 (rw right.0 at answered))
+
+pub returns : goal.returns
+unfolding IsLoopsCheckReply
+returns c =
+    mapped (λ (reply : Answer). reply ≡ refusal (Words c.in-Err.error)) (λ (reply : Answer). (input : List ℕ) → AreDigits (without_blanks input) c.args.digits.now → IsLoopsCheckReply input reply)
+    c.refused-in-Err.result c.refused-in-Err.ensures
+    (λ reply e input are. let stand = (rw c.in-Some.is at c.in_ok-bytes.ensures) (without_blanks input) are in
+    first_refused IsDetailedReply (without_blanks input) c.in-Some.bytes.items c.deref.result.now c.in-Err.error reply stand c.deref.ensures.value c.in-Err.ensures.value e)
