@@ -6,9 +6,12 @@
 # COMPILER is the compiler: clang, or where that isn't there gcc for BPF (bpf-gcc, bpf-unknown-none-gcc). OBJCOPY and OBJDUMP are
 # the tools, MCPU is the instruction set, CFLAGS has further options. Where the compiler laid out a jump back, HUB (hub) lays the
 # blocks out again, unless it is empty: `hub straighten`. A program with a loop stays as it is; context 4 takes it.
+#
+# A filter in Rust (.rs, with span.rs) is compiled by RUSTC (rustc), of version 1.95 with the target bpfel-unknown-none, and
+# assembled by LLVM_MC (llvm-mc). Where one isn't there, the status is 3.
 set -eu
 if [ $# -ne 1 ] || [ "$1" = --help ]; then
-    sed -n '2,8s/^# \{0,1\}//p' "$0" >&2
+    sed -n '2,11s/^# \{0,1\}//p' "$0" >&2
     exit 2
 fi
 source=$1
@@ -39,12 +42,40 @@ case $(basename "$compiler") in
     ;;
 esac
 hub=${HUB-hub}
-objdump=${OBJDUMP:-${tools}objdump}
 folder=$(mktemp -d)
 trap 'rm -rf "$folder"' EXIT
 
-# shellcheck disable=SC2086 # several options each
-"$compiler" $target -mcpu="${MCPU:-v3}" -O2 -Wall -Werror ${CFLAGS:-} -c "$source" -o "$folder/object"
+# rustc is here, of the version whose `core` span.rs stands for, and knows BPF; and so is the assembler.
+has_rust() {
+    "$rustc" --version 2> /dev/null | grep -q '^rustc 1\.95\.' &&
+        "$rustc" --print target-list | grep -qx bpfel-unknown-none &&
+        command -v "$assembler" > /dev/null
+}
+
+# rustc makes text for BPF, or an object that only its own LLVM reads. A source without a `core` takes what is marked as unstable.
+compile_rust() {
+    rustc=${RUSTC:-rustc}
+    assembler=${LLVM_MC:-llvm-mc}
+    if ! has_rust; then
+        echo "$source: not run: there is no rustc 1.95 with the target bpfel-unknown-none, or no llvm-mc" >&2
+        exit 3
+    fi
+    RUSTC_BOOTSTRAP=1 "$rustc" --edition 2024 --crate-type lib --target bpfel-unknown-none -C target-cpu="${MCPU:-v3}" \
+        -C opt-level=2 -C panic=abort -Z function-sections=no -D warnings --emit asm="$folder/text" "$source"
+    "$assembler" -triple bpfel -mcpu="${MCPU:-v3}" -filetype=obj "$folder/text" -o "$folder/object"
+}
+
+case $source in
+*.rs)
+    compile_rust
+    tools=llvm-
+    ;;
+*)
+    # shellcheck disable=SC2086 # several options each
+    "$compiler" $target -mcpu="${MCPU:-v3}" -O2 -Wall -Werror ${CFLAGS:-} -c "$source" -o "$folder/object"
+    ;;
+esac
+objdump=${OBJDUMP:-${tools}objdump}
 "${OBJCOPY:-${tools}objcopy}" -O binary --only-section=.text "$folder/object" "$folder/program"
 od -An -v -tx1 "$folder/program" | tr -d ' \n' > "$folder/digits"
 

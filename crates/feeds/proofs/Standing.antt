@@ -8,7 +8,7 @@ use Rattle.span_flatten.specs.Spans.{Span}
 use Rattle.span_flatten.specs.Version.{Version, span_at, spans_of}
 use Rattle.span_view.specs.Views.{SpanView, view_of}
 use Rattle.version_pieces.specs.Alike.{AreAlike as DoStand}
-use Rattle.version_history.specs.Links.{HaveLinks}
+use Rattle.version_pieces.specs.Links.{HaveLinks}
 use Rattle.version_history.proofs.Linked.{as_many, behind_at, front_at}
 use Rattle.feeds.specs.Kept.{AlikeAt, IsAlike, IsStretch}
 use Rattle.feeds.proofs.Walking.{AreKept, lent, row_of, span_of}

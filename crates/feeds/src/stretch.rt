@@ -6,10 +6,10 @@ ghost use Rattle.feeds.specs.Kept.{AlikeAt, AreAlike, AreFormattedAlike, IsStret
 use change_ops::keys::{CODE, EM, STRONG};
 use mark_anchors::format::Format;
 use std::marker::Model;
-use version_history::links::keeps_link;
 use version_history::published::{Naming, Published, VersionToken};
 use version_pieces::alike::Alike;
 use version_pieces::iter::{SpanTexts, spans_from};
+use version_pieces::links::keeps_link;
 use version_pieces::span_text::SpanText;
 use version_pieces::version::PieceVersion;
 

@@ -18,7 +18,6 @@ use Rattle.loop_labels.specs.Bounded.{EndsWithin, NeverEnds}
 use Rattle.loop_labels.specs.Potential.{Bound, most_steps, steps_within}
 use Rattle.loop_labels.proofs.Endless.{ends_later}
 use Rattle.loop_labels.proofs.Sums.{at_most_most}
-use Rattle.loop_verifier.specs.Limit.{step_limit}
 use Rattle.interpreter.specs.Within.{EndsIn}
 use Rattle.program_reads.specs.declared.reads.Reads.{Reads}
 use Rattle.program_reads.specs.Reads.{AgreesOn, Determines}
@@ -26,7 +25,7 @@ use Rattle.verifier.specs.declared.refusal.StructureFault.TheVariants.{BackwardJ
 use Rattle.verifier.specs.Structure.{IsStructured}
 use Rattle.filters.specs.declared.rules.RuleSet.TheVariants.{Straight, Looping}
 use Rattle.filters.specs.Accepted.{IsAccepted}
-use Rattle.filters.specs.Filters.{longest_run, whole_outcome, IsFilter, IsBoundOf, DeterminesRuns}
+use Rattle.filters.specs.Filters.{constant_bound, longest_run, whole_outcome, IsFilter, IsBoundOf, DeterminesRuns}
 
 few_steps : (n : ℕ) → n ≤ 4096 → n ≤ longest_run
 unfolding longest_run
@@ -35,10 +34,6 @@ few_steps n few = omega (arith, few)
 pub longest_is : longest_run ≡ 2 ^ 23
 unfolding longest_run
 longest_is = refl
-
-within_longest : (n : ℕ) → n ≤ step_limit → n ≤ longest_run
-unfolding longest_run
-within_longest n few = few
 
 -- ---- programs without a jump back
 pub verdict_within : (program : Program) (bytes : SpanBytes) (value : ℕ) → length program ≤ 4096
@@ -51,10 +46,6 @@ straight_filter program few safe = record {
   ends = λ bytes span. let run = safe bytes span in (run.0, verdict_within program bytes run.0 few run.1);
   straight = λ forward. safe;
 }
-
--- the bound that is a constant
-abbrev pub constant_bound : ℕ → Bound
-constant_bound n = record { constant = n; per_byte = 0; per_link_byte = 0 }
 
 pub straight_bound : (program : Program) (n : ℕ) → n ≡ length program → length program ≤ 4096 → Safe program
     → IsBoundOf program (constant_bound n)
@@ -77,10 +68,10 @@ straight_reads program reads few safe determines = λ a b span other agrees.
 
 -- ---- programs with a jump back
 pub looping_bound : (program : Program) (bound : Bound) → EndsWithin Three program bound
-    → most_steps bound ≤ step_limit → IsBoundOf program bound
+    → most_steps bound ≤ longest_run → IsBoundOf program bound
 looping_bound program bound ends few = record {
   ends = λ bytes span. ends bytes (third_span bytes span);
-  limit = within_longest (most_steps bound) few;
+  limit = few;
 }
 
 pub bounded_ends : (program : Program) (bound : Bound) → IsBoundOf program bound → EndsIn longest_run program
@@ -133,7 +124,11 @@ pub accepted_straight : (program : Program) → length program ≤ 4096 → IsAc
 accepted_straight program few (structured, safe, allowed) = (
   λ forward. (structured, safe, allowed),
   λ loops. absurd (loops (structured_forward program structured)),
-  (constant_bound (length program), straight_bound program (length program) refl few (seen_safe Three program safe)),
+  (
+    constant_bound (length program),
+    straight_bound program (length program) refl few (seen_safe Three program safe),
+    λ loops. absurd (loops (structured_forward program structured)),
+  ),
 )
 
 pub whenever : {T E : Type 0} (r : Result T E) (P Q : T → Type 0) → ((t : T) → P t → Q t) → IfOk r P → IfOk r Q

@@ -1,5 +1,5 @@
 -- Which programs are accepted as filters, and why others aren't.
-use Rattle.std.specs.Prelude.{ℕ, Option, Some, None}
+use Rattle.std.specs.Prelude.{ℕ}
 use Rattle.span_context.specs.declared.profile.Profile.TheVariants.{Three}
 use Rattle.semantics.specs.Step.{Program}
 use Rattle.semantics.specs.Safe.{SafeIn}
@@ -7,6 +7,7 @@ use Rattle.block_layout.specs.Meaning.{IsForward}
 use Rattle.block_layout.specs.Structure.{FirstBack, FirstFault, IsConnected}
 use Rattle.block_layout.specs.declared.refusal.WayFault.TheVariants as way
 use Rattle.loop_labels.specs.Potential.{Bound}
+use Rattle.loop_verifier.specs.Labelled.{HasLabels}
 use Rattle.verifier.specs.declared.refusal.StructureFault.TheVariants.{JumpOut, JumpIntoWide, FallOff}
 use Rattle.verifier.specs.declared.refusal.VerifyError.{VerifyError}
 use Rattle.verifier.specs.declared.refusal.VerifyError.TheVariants.{Structure}
@@ -21,12 +22,14 @@ use Rattle.filters.specs.Filters.{IsBoundOf}
 
 -- by a profile's rules: neither its structure nor the rules have a fault, and every run on what the profile lends ends
 -- within as many steps as it has slots. By those of loops the same of a program without a jump back, by the third
--- profile; of one with a jump back each instruction leads to instructions, and there is a bound of its steps
+-- profile; of one with a jump back each instruction leads to instructions, and there is a bound of its steps for which
+-- it has inductive labels
 abbrev pub IsAccepted : RuleSet → Program → Type 0
 IsAccepted (Straight profile) program = IsStructured program × SafeIn profile program × IsAllowed profile program
 IsAccepted Looping program =
     (IsForward program → IsStructured program × SafeIn Three program × IsAllowed Three program)
-    × (¬ IsForward program → IsConnected program) × ((bound : Bound) × IsBoundOf program bound)
+    × (¬ IsForward program → IsConnected program)
+    × ((bound : Bound) × IsBoundOf program bound × (¬ IsForward program → HasLabels program bound))
 
 -- where a refusal says that an instruction leads nowhere, it is the first
 abbrev pub NamesWay : Program → VerifyError → Type 0
@@ -45,8 +48,3 @@ IsRefused Looping program (OfProgram error) =
     (IsForward program → Rejects Three program error) × (¬ IsForward program → NamesWay program error)
 IsRefused Looping program (UnboundedLoop slot) = FirstBack program slot
 IsRefused Looping program SearchLimit = ¬ IsForward program
-
--- why a program isn't accepted; none where it is
-abbrev pub IsJudged : RuleSet → Program → Option FilterError → Type 0
-IsJudged rules program None = IsAccepted rules program
-IsJudged rules program (Some error) = IsRefused rules program error

@@ -66,8 +66,8 @@ fn accept_loops(alloc: Global, words: &Words<'_>, back: usize) -> Result<Filter,
 
 /// Accepts a program of which every run on a span ends with a number, and that reads of a span no more than the rules
 /// let it. By the rules of a profile it is accepted exactly where they allow it (`accepted`, `complete`); by those of
-/// loops the same holds of a program without a jump back (`straight`), and one with a jump back has a bound. Besides,
-/// memory may run out.
+/// loops the same holds of a program without a jump back (`straight`), and one with a jump back has a bound for which
+/// it has inductive labels (`accepted`). Besides, memory may run out.
 pub fn accept(alloc: Global, words: &Words<'_>, rules: RuleSet) -> Result<Filter, FilterError>
     ensures same { IfOk result (λ filter. filter ≡ program_of words.now) }
     ensures accepted { IfOk result (λ _. IsAccepted rules (program_of words.now)) }

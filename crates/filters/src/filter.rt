@@ -1,14 +1,16 @@
 //! Filters, and their runs.
-ghost use Rattle.std.specs.Prelude.{◌≡◌, ◌≤◌, ◌↔◌, IfSome, IsTrue, length};
+ghost use Rattle.std.specs.Prelude.{◌≡◌, ◌≤◌, ◌↔◌, IsTrue, MatchOption, length};
 ghost use Rattle.span_context.specs.Context.{Fits, SpanBytes, span_bytes};
 ghost use Rattle.bpf_words.specs.Words.{program_of};
 ghost use Rattle.semantics.specs.declared.Outcome.TheVariants.{Done};
 ghost use Rattle.semantics.specs.Safe.{IsSpan};
 ghost use Rattle.block_layout.specs.Meaning.{IsForward};
 ghost use Rattle.loop_check.specs.Labels.{bound_of};
+ghost use Rattle.loop_verifier.specs.Labelled.{HasLabels};
 ghost use Rattle.program_reads.specs.declared.reads.Reads.{Reads as TheReads};
 ghost use Rattle.program_reads.specs.Reads.{AgreesOn};
-ghost use Rattle.filters.specs.Filters.{IsFilter, IsBoundOf, DeterminesRuns, longest_run, whole_outcome};
+ghost use Rattle.filters.specs.Filters.{IsFilter, IsBoundOf, DeterminesRuns, constant_bound};
+ghost use Rattle.filters.specs.Filters.{longest_run, whole_outcome};
 
 use decoded_rows::rows::Rows;
 use interpreter::run::run_within;
@@ -95,9 +97,12 @@ impl Filter {
         }
     }
 
-    /// A bound of the steps of its runs: the number of its slots, where no jump leads back.
+    /// A bound of the steps of its runs: the number of its slots, where no jump leads back (`straight`), and the bound
+    /// for which it has inductive labels, where one does (`labels`).
     pub fn bound(&self) -> Bound
-        ensures { IsBoundOf self.now (bound_of result) }
+        ensures bound { IsBoundOf self.now (bound_of result) }
+        ensures straight { IsForward self.now → bound_of result ≡ constant_bound (length self.now) }
+        ensures labels { ¬ IsForward self.now → HasLabels self.now (bound_of result) }
     {
         match &self.code {
             Code::Straight(program) => Bound {
@@ -109,9 +114,10 @@ impl Filter {
         }
     }
 
-    /// What its loads can read of a span, where that is known: spans that agree on it have one verdict.
+    /// What its loads can read of a span: spans that agree on it have one verdict. It is unknown only where a jump
+    /// leads back.
     pub fn reads(&self) -> Option<Reads>
-        ensures { IfSome result (λ reads. DeterminesRuns reads self.now) }
+        ensures { MatchOption result (¬ IsForward self.now) (λ reads. DeterminesRuns reads self.now) }
     {
         match &self.code {
             Code::Straight(program) => {

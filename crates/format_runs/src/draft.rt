@@ -65,22 +65,30 @@ fn lengthen(runs: &mut Vec<Run>, characters: usize) -> Result<(), AllocError>
     }
 }
 
+/// Moves runs behind those that are there.
+fn move_all(runs: &mut Vec<Run>, mut more: Vec<Run>) -> Result<(), AllocError>
+    ensures { IfOk result (λ _. runs.new.items ≡ runs.old.items ++ more.items) }
+{
+    runs.append(&mut more)
+}
+
 /// Adds runs that are maximal. The last run that is there is lengthened by the first of them where they join, which
 /// only runs of one format do. So no formats are compared, which is dear where a character has many comments.
-pub fn add_runs(runs: &mut Vec<Run>, more: &[Run], join: bool) -> Result<(), AllocError>
-    requires few { character_count runs.old.items + character_count more.now < 2 ^ 62 }
+pub fn add_runs(runs: &mut Vec<Run>, more: Vec<Run>, join: bool) -> Result<(), AllocError>
+    requires few { character_count runs.old.items + character_count more.items < 2 ^ 62 }
     requires maximal { AreMaximal runs.old.items }
-    requires maximal_more { AreMaximal more.now }
-    requires alike { IsTrue join → AreAlike (formats_of runs.old.items) (formats_of more.now) }
-    requires apart { IsFalse join → AreApart (formats_of runs.old.items) (formats_of more.now) }
-    ensures formats { IfOk result (λ _. formats_of runs.new.items ≡ formats_of runs.old.items ++ formats_of more.now) }
+    requires maximal_more { AreMaximal more.items }
+    requires alike { IsTrue join → AreAlike (formats_of runs.old.items) (formats_of more.items) }
+    requires apart { IsFalse join → AreApart (formats_of runs.old.items) (formats_of more.items) }
+    ensures formats { IfOk result (λ _. formats_of runs.new.items
+        ≡ formats_of runs.old.items ++ formats_of more.items) }
     ensures maximal { IfOk result (λ _. AreMaximal runs.new.items) }
-    ensures count { IfOk result (λ _. length runs.new.items ≤ length runs.old.items + length more.now) }
+    ensures count { IfOk result (λ _. length runs.new.items ≤ length runs.old.items + length more.items) }
 {
     if !join {
-        return share_all(runs, more);
+        return move_all(runs, more);
     }
-    let Some((first, others)) = more.split_first() else {
+    let Some((first, others)) = more.as_slice().split_first() else {
         return Ok(());
     };
     lengthen(runs, first.characters())?;

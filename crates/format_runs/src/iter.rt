@@ -1,4 +1,5 @@
 //! Runs, one after another.
+ghost use Rattle.std.specs.Prelude.{◌≡◌, ◌<◌, ◌++◌, [], MatchOption, length};
 ghost use Rattle.std.specs.Iterator.{YieldsFirstRef, item_count};
 
 use crate::piece::RunPiece;
@@ -47,3 +48,19 @@ impl<'a> Iterator for RunsFrom<'a> {
 }
 
 impl<'a> FusedIterator for RunsFrom<'a> {}
+
+impl<'a> RunsFrom<'a> {
+    /// Takes the next runs that lie together, at least one, if any run is left.
+    pub fn next_part(&mut self) -> Option<&'a [Run]>
+        ensures { MatchOption result (self.old ≡ [])
+            (λ part. (0 < length part.now) × (self.old ≡ part.now ++ self.new)) }
+    {
+        if !self.rest.is_empty() {
+            let part = self.rest;
+            self.rest = &[];
+            return Some(part);
+        }
+        let piece = self.pieces.next()?;
+        Some(piece.runs())
+    }
+}

@@ -206,10 +206,10 @@ impl SharedRuns {
         let room = rows.len() + back.len();
         let mut runs = between(alloc, front, 0, from - first.characters, room)?;
         let cuts_front = is_inside(front, from - first.characters);
-        add_runs(&mut runs, fresh.as_slice(), cuts_front)?;
+        add_runs(&mut runs, fresh, cuts_front)?;
         let behind = between(alloc, back, to - last.characters, self.character_count(), 0)?;
         let cuts_back = is_inside(back, to - last.characters);
-        add_runs(&mut runs, behind.as_slice(), cuts_back)?;
+        add_runs(&mut runs, behind, cuts_back)?;
         let end = self.pieces.len().min(last.index + 1);
         let end = fill(&self.pieces, &mut runs, end)?;
         put(

@@ -14,8 +14,10 @@ use crate::digits::Digits;
 use crate::ended::Ended;
 use crate::explain::{listing, push_refused};
 use crate::failure::Failure;
+use crate::first_turn::push_first_turn;
 use crate::hex_input::HexInput;
 use crate::listing::push_instructions;
+use crate::loop_lines::{push_bounded, push_unbounded};
 use crate::output::write_answer;
 use block_layout::structure::first_back;
 use bpf_words::words::Words;
@@ -63,7 +65,8 @@ fn plain_answer(
     }
 }
 
-/// Appends the instruction at which a program is refused; and what is known before it, where it has no jump back.
+/// Appends the instruction at which a program is refused, and what is known there; at the heads of its loops, where no
+/// bound of its steps is found.
 fn push_known(
     alloc: Global,
     text: &mut String,
@@ -78,10 +81,13 @@ fn push_known(
         FilterError::Program(VerifyError::Structure { slot, .. }) => {
             push_instructions(text, words, slot, slot)
         }
-        FilterError::Program(VerifyError::State { slot, .. }) => {
-            push_instructions(text, words, slot, slot)
+        FilterError::Program(VerifyError::State { slot, fault }) => {
+            push_first_turn(alloc, text, words, slot, fault)
         }
-        FilterError::UnboundedLoop { slot } => push_instructions(text, words, slot, slot),
+        FilterError::UnboundedLoop { slot } => {
+            push_instructions(text, words, slot, slot)?;
+            push_unbounded(alloc, text, words, is_whole)
+        }
         FilterError::Program(VerifyError::OutOfMemory) | FilterError::SearchLimit => Ok(()),
     }
 }
@@ -97,12 +103,13 @@ fn further(
     let is_whole = matches!(detail, Detail::Listing);
     match (detail, judged) {
         (Detail::Verdict, _) => {}
-        (_, Ok(filter)) => {
-            if let Some(reads) = filter.reads() {
+        (_, Ok(filter)) => match filter.reads() {
+            Some(reads) => {
                 push_reads(&mut text, &reads, Profile::Three)?;
                 text.push_str(listing(alloc, words, Profile::Three, is_whole)?.as_str())?;
             }
-        }
+            None => push_bounded(alloc, &mut text, words, &filter.bound(), is_whole)?,
+        },
         (_, Err(error)) => push_known(alloc, &mut text, words, *error, is_whole)?,
     }
     Ok(text)

@@ -18,6 +18,8 @@ mod refusal_names;
 #[cfg(test)]
 mod sequence_calls;
 #[cfg(test)]
+mod spoiled_labels;
+#[cfg(test)]
 mod spoiled_readers;
 #[cfg(test)]
 mod view_calls;

@@ -5,7 +5,8 @@ ghost use Rattle.bpf_words.specs.Words.{program_of};
 ghost use Rattle.loop_labels.specs.Bounded.{EndsWithin};
 ghost use Rattle.loop_labels.specs.Potential.{most_steps};
 ghost use Rattle.loop_check.specs.Labels.{bound_of};
-ghost use Rattle.loop_verifier.specs.Limit.{step_limit};
+ghost use Rattle.loop_verifier.specs.Labelled.{HasLabels};
+ghost use Rattle.loop_verifier.specs.Limit.{longest_run};
 
 use crate::error::LoopError;
 use bpf_words::words::Words;
@@ -72,8 +73,9 @@ fn potential_at(potentials: &[Option<Potential>], slot: usize) -> Option<Potenti
 }
 
 /// Whether a bound is within the limit.
+#[tactic(auto, unfolding(crate::specs::Limit::longest_run))]
 fn is_within_limit(bound: &Bound) -> bool
-    ensures { IsTrue result → most_steps (bound_of bound.now) ≤ step_limit }
+    ensures { IsTrue result → most_steps (bound_of bound.now) ≤ longest_run }
 {
     match most(bound) {
         Some(steps) => steps <= STEP_LIMIT,
@@ -84,7 +86,8 @@ fn is_within_limit(bound: &Bound) -> bool
 /// Searches with so many growths to fine thresholds, and checks what is found.
 fn verify_at(alloc: Global, words: &Words<'_>, fine: u8) -> Result<Bound, LoopError>
     ensures ends { IfOk result (λ bound. EndsWithin Three (program_of words.now) (bound_of bound)) }
-    ensures limit { IfOk result (λ bound. most_steps (bound_of bound) ≤ step_limit) }
+    ensures limit { IfOk result (λ bound. most_steps (bound_of bound) ≤ longest_run) }
+    ensures labels { IfOk result (λ bound. HasLabels (program_of words.now) (bound_of bound)) }
 {
     let states = find_states(alloc, words, fine)?;
     let Some(potentials) = find_potentials(alloc, words, &states)? else {
@@ -105,10 +108,12 @@ fn verify_at(alloc: Global, words: &Words<'_>, fine: u8) -> Result<Bound, LoopEr
 }
 
 /// Accepts a program that may loop, with a bound of its steps: every run on what the third profile lends ends with a
-/// number, within the bound, which is at most [`STEP_LIMIT`] on the longest texts.
+/// number, within the bound, which is at most [`STEP_LIMIT`] on the longest texts. That is so by labels of the program
+/// that are inductive (`labels`).
 pub fn verify_loops(alloc: Global, words: &Words<'_>) -> Result<Bound, LoopError>
     ensures ends { IfOk result (λ bound. EndsWithin Three (program_of words.now) (bound_of bound)) }
-    ensures limit { IfOk result (λ bound. most_steps (bound_of bound) ≤ step_limit) }
+    ensures limit { IfOk result (λ bound. most_steps (bound_of bound) ≤ longest_run) }
+    ensures labels { IfOk result (λ bound. HasLabels (program_of words.now) (bound_of bound)) }
 {
     match verify_at(alloc, words, COARSE) {
         Ok(bound) => Ok(bound),

@@ -1,3 +1,2 @@
 pub mod Safety
 pub mod Linked
-pub mod Walked

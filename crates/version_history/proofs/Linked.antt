@@ -9,7 +9,7 @@ use Rattle.span_flatten.specs.Spans.{Span}
 use Rattle.span_flatten.specs.Version.{Version, span_at, spans_of}
 use Rattle.version_pieces.specs.Alike.{AreAlike}
 use Rattle.version_pieces.specs.declared.alike.Alike.{Alike}
-use Rattle.version_history.specs.Links.{HasLink, HaveLinks}
+use Rattle.version_pieces.specs.Links.{HasLink, HaveLinks}
 
 -- what is read at an index stands there
 stands_at : (spans : List Span) (i : ℕ) (span : Span) → i < length spans → get_or spans i span ≡ span → slice_get spans i ≡ Some span

@@ -1,5 +1,4 @@
 //! Published versions and programs, and the tokens that name them.
 #![tactic(auto)]
 
-pub mod links;
 pub mod published;

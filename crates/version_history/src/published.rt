@@ -2,15 +2,15 @@ ghost use Rattle.std.specs.Prelude.{◌≡◌, ◌↔◌, IfOk, IfErr, IfSome, I
 ghost use Rattle.span_flatten.specs.Version.{spans_of};
 ghost use Rattle.version_pieces.specs.Alike.{AreAlike};
 ghost use Rattle.version_history.specs.Before.{KnowsBefore};
-ghost use Rattle.version_history.specs.Links.{HaveLinks};
+ghost use Rattle.version_pieces.specs.Links.{HaveLinks};
 
-use crate::links::keep_links;
 use boxcar::Pushed;
 use change_ops::size::Size;
 use filters::filter::Filter;
 use std::marker::{Brand, Model, PhantomData};
 use std::sync::Wait;
 use version_pieces::alike::Alike;
+use version_pieces::links::keep_links;
 use version_pieces::version::{NextVersion, PieceVersion};
 
 /// Which two lists a hub publishes in, and how much its document may hold. A program picks them once for each hub.
@@ -83,7 +83,7 @@ impl<N: Naming> Model for VersionToken<N> {
     ghost use Rattle.boxcar.specs.Table.{Shows};
     ghost use Rattle.version_history.specs.Tokens.{Token};
     ghost use Rattle.version_history.specs.Before.{KnowsBefore};
-    ghost use Rattle.version_history.specs.Links.{HaveLinks};
+    ghost use Rattle.version_pieces.specs.Links.{HaveLinks};
     ghost use Rattle.span_flatten.specs.Version.{Version, spans_of};
 
     ghost Value = { Token Version };

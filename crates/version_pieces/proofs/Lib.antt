@@ -4,3 +4,4 @@ pub mod Putting
 pub mod Walking
 pub mod Standing
 pub mod Paying
+pub mod Linked

@@ -1,4 +1,5 @@
 pub mod Along
 pub mod Putting
 pub mod Alike
+pub mod Links
 pub mod Budgets

@@ -1,5 +1,5 @@
 //! The spans of a version, one after another.
-ghost use Rattle.std.specs.Prelude.{◌≡◌, drop, map};
+ghost use Rattle.std.specs.Prelude.{◌≡◌, ◌<◌, ◌++◌, [], MatchOption, drop, length, map};
 ghost use Rattle.std.specs.Iterator.{YieldsFirst, YieldsFirstRef, item_count};
 ghost use Rattle.span_flatten.specs.Version.{spans_of};
 
@@ -7,6 +7,7 @@ use crate::span_text::SpanText;
 use crate::spans::Spans;
 use crate::version::PieceVersion;
 use format_runs::iter::RunsFrom;
+use format_runs::run::Run;
 use mark_anchors::format::Format;
 use std::iter::FusedIterator;
 use std::marker::Model;
@@ -118,3 +119,13 @@ impl<'a> Iterator for FormatsFrom<'a> {
 }
 
 impl<'a> FusedIterator for FormatsFrom<'a> {}
+
+impl<'a> FormatsFrom<'a> {
+    /// Takes the next formats whose runs lie together, at least one, if any is left.
+    pub(crate) fn next_part(&mut self) -> Option<&'a [Run]>
+        ensures { MatchOption result (self.old ≡ []) (λ part. (0 < length part.now)
+            × (self.old ≡ map (λ run. run.format) part.now ++ self.new)) }
+    {
+        self.runs.next_part()
+    }
+}

@@ -5,6 +5,7 @@
 pub mod alike;
 pub mod iter;
 pub mod laws;
+pub mod links;
 pub mod span_text;
 mod spans;
 pub mod version;

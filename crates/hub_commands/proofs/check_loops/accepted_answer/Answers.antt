@@ -12,5 +12,5 @@ returns c =
     let bound = bound_of c.bound-bound.result in
     let made : string_bytes c.in_ok-text.text ≡ bound_line c.len-slots.result bound = c.in_ok-text.ensures.ok in
     accepted bound c.requires.accepted
-    (subst (λ (program : Program). IsBoundOf program bound) c.requires.same c.bound-bound.ensures)
+    (subst (λ (program : Program). IsBoundOf program bound) c.requires.same c.bound-bound.ensures.bound)
     (c.done.ensures ∙ ap done (made ∙ ap (λ (n : ℕ). bound_line n bound) c.len-slots.ensures.value))

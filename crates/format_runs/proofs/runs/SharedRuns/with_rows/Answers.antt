@@ -56,8 +56,8 @@ add_runs-requires-clause-alike c =
     let from : ℕ = c.args.from in
     let front : List Run = c.runs_at-front.result.now in
     let rows : List Format = formats_in c.args.rows.now in
-    let spelt : formats_of c.as_slice.result.now ≡ rows =
-    ap formats_of (c.as_slice.ensures.value ∙ c.in_ok-fresh.ensures.runs) ∙ formats_rows c.args.rows.now in
+    let spelt : formats_of c.in_ok-fresh.fresh.items ≡ rows =
+    ap formats_of c.in_ok-fresh.ensures.runs ∙ formats_rows c.args.rows.now in
     let within : from ≤ character_count (pieces_of ps) = omega (arith, c.requires.order, c.requires.within, ap character_count c.self.view_is) in
     let at : IsAt ps first.index first.characters from = first_is_at ps from first within c.spot-first.ensures in
     let keep : KeepEdges (formats_of (pieces_of ps)) from c.args.to rows =
@@ -78,8 +78,8 @@ add_runs-requires-clause-apart c =
     let from : ℕ = c.args.from in
     let front : List Run = c.runs_at-front.result.now in
     let rows : List Format = formats_in c.args.rows.now in
-    let spelt : formats_of c.as_slice.result.now ≡ rows =
-    ap formats_of (c.as_slice.ensures.value ∙ c.in_ok-fresh.ensures.runs) ∙ formats_rows c.args.rows.now in
+    let spelt : formats_of c.in_ok-fresh.fresh.items ≡ rows =
+    ap formats_of c.in_ok-fresh.ensures.runs ∙ formats_rows c.args.rows.now in
     let within : from ≤ character_count (pieces_of ps) = omega (arith, c.requires.order, c.requires.within, ap character_count c.self.view_is) in
     let at : IsAt ps first.index first.characters from = first_is_at ps from first within c.spot-first.ensures in
     let keep : KeepEdges (formats_of (pieces_of ps)) from c.args.to rows =
@@ -118,8 +118,8 @@ add_runs-requires-2-clause-alike c =
     let last : Spot = c.spot-last.result in
     let to : ℕ = c.args.to in
     let rows : List Format = formats_in c.args.rows.now in
-    let spelt : formats_of c.as_slice.result.now ≡ rows =
-    ap formats_of (c.as_slice.ensures.value ∙ c.in_ok-fresh.ensures.runs) ∙ formats_rows c.args.rows.now in
+    let spelt : formats_of c.in_ok-fresh.fresh.items ≡ rows =
+    ap formats_of c.in_ok-fresh.ensures.runs ∙ formats_rows c.args.rows.now in
     let joined : formats_of c.add_runs.new.runs.items ≡ formats_of c.in_ok-runs.runs.items ++ rows =
     c.in_ok-add_runs.ensures.formats ∙ ap (λ (l : List Format). formats_of c.in_ok-runs.runs.items ++ l) spelt in
     let own : List Format = formats_of (get_or ps last.index []) in
@@ -129,14 +129,14 @@ add_runs-requires-2-clause-alike c =
     subst (λ (l : List Run). KeepEdges (formats_of l) c.args.from to rows) (sym c.self.view_is) c.requires.edges in
     let long : length own ≤ c.character_count.result =
     omega (arith, length_formats (get_or ps last.index []), counted_around ps last.index, c.character_count.ensures, ap character_count c.self.view_is) in
-    let rest : formats_of c.as_slice-2.result.now ≡ drop (to - last.characters) own =
-    ap formats_of c.as_slice-2.ensures.value ∙ c.in_ok-behind.ensures.formats
+    let rest : formats_of c.in_ok-behind.behind.items ≡ drop (to - last.characters) own =
+    c.in_ok-behind.ensures.formats
     ∙ ap (λ (l : List Run). slice_range (formats_of l) (to - last.characters) c.character_count.result) c.runs_at-back.ensures
     ∙ slice_to_end own (to - last.characters) c.character_count.result long in
     λ join.
     let inside : IsInside (get_or ps last.index []) (to - last.characters) =
     subst (λ (l : List Run). IsInside l (to - last.characters)) c.runs_at-back.ensures (c.is_inside-cuts_back.ensures.inside join) in
-    back_alike ps c.args.from to rows keep last.index last.characters (formats_of c.in_ok-runs.runs.items) (formats_of c.add_runs.new.runs.items) (formats_of c.as_slice-2.result.now)
+    back_alike ps c.args.from to rows keep last.index last.characters (formats_of c.in_ok-runs.runs.items) (formats_of c.add_runs.new.runs.items) (formats_of c.in_ok-behind.behind.items)
     at joined rest inside
 
 pub add_runs-requires-2-clause-apart : goal.add_runs-requires-2-clause-apart
@@ -145,8 +145,8 @@ add_runs-requires-2-clause-apart c =
     let last : Spot = c.spot-last.result in
     let to : ℕ = c.args.to in
     let rows : List Format = formats_in c.args.rows.now in
-    let spelt : formats_of c.as_slice.result.now ≡ rows =
-    ap formats_of (c.as_slice.ensures.value ∙ c.in_ok-fresh.ensures.runs) ∙ formats_rows c.args.rows.now in
+    let spelt : formats_of c.in_ok-fresh.fresh.items ≡ rows =
+    ap formats_of c.in_ok-fresh.ensures.runs ∙ formats_rows c.args.rows.now in
     let joined : formats_of c.add_runs.new.runs.items ≡ formats_of c.in_ok-runs.runs.items ++ rows =
     c.in_ok-add_runs.ensures.formats ∙ ap (λ (l : List Format). formats_of c.in_ok-runs.runs.items ++ l) spelt in
     let own : List Format = formats_of (get_or ps last.index []) in
@@ -156,14 +156,14 @@ add_runs-requires-2-clause-apart c =
     subst (λ (l : List Run). KeepEdges (formats_of l) c.args.from to rows) (sym c.self.view_is) c.requires.edges in
     let long : length own ≤ c.character_count.result =
     omega (arith, length_formats (get_or ps last.index []), counted_around ps last.index, c.character_count.ensures, ap character_count c.self.view_is) in
-    let rest : formats_of c.as_slice-2.result.now ≡ drop (to - last.characters) own =
-    ap formats_of c.as_slice-2.ensures.value ∙ c.in_ok-behind.ensures.formats
+    let rest : formats_of c.in_ok-behind.behind.items ≡ drop (to - last.characters) own =
+    c.in_ok-behind.ensures.formats
     ∙ ap (λ (l : List Run). slice_range (formats_of l) (to - last.characters) c.character_count.result) c.runs_at-back.ensures
     ∙ slice_to_end own (to - last.characters) c.character_count.result long in
     λ apart.
     let between : IsBetween (get_or ps last.index []) (to - last.characters) =
     subst (λ (l : List Run). IsBetween l (to - last.characters)) c.runs_at-back.ensures (c.is_inside-cuts_back.ensures.between apart) in
-    back_apart ps c.args.from to rows keep last.index last.characters (formats_of c.in_ok-runs.runs.items) (formats_of c.add_runs.new.runs.items) (formats_of c.as_slice-2.result.now)
+    back_apart ps c.args.from to rows keep last.index last.characters (formats_of c.in_ok-runs.runs.items) (formats_of c.add_runs.new.runs.items) (formats_of c.in_ok-behind.behind.items)
     c.self.invariant.maximal at joined rest between
 
 -- ---- the calls
@@ -176,7 +176,7 @@ between-requires-2-clause-maximal c =
     subst AreMaximal (sym c.runs_at-back.ensures) (piece_maximal c.self.inside.pieces c.spot-last.result.index c.self.invariant.maximal)
 
 pub add_runs-requires-clause-maximal_more : goal.add_runs-requires-clause-maximal_more
-add_runs-requires-clause-maximal_more c = subst AreMaximal (sym (c.as_slice.ensures.value ∙ c.in_ok-fresh.ensures.runs)) c.requires.maximal
+add_runs-requires-clause-maximal_more c = subst AreMaximal (sym c.in_ok-fresh.ensures.runs) c.requires.maximal
 
 pub add_runs-requires-clause-few : goal.add_runs-requires-clause-few
 add_runs-requires-clause-few c =
@@ -184,7 +184,7 @@ add_runs-requires-clause-few c =
       arith,
       c.requires.short,
       short_part c.runs_at-front.result.now c.in_ok-runs.runs.items 0 (c.args.from - c.spot-first.result.characters) c.in_ok-runs.ensures.formats,
-      ap character_count (c.as_slice.ensures.value ∙ c.in_ok-fresh.ensures.runs),
+      ap character_count c.in_ok-fresh.ensures.runs,
       count_rows c.args.rows.now,
       ap character_count c.runs_at-front.ensures,
       counted_around c.self.inside.pieces c.spot-first.result.index,
@@ -194,8 +194,8 @@ add_runs-requires-clause-few c =
 pub add_runs-requires-2-clause-few : goal.add_runs-requires-2-clause-few
 add_runs-requires-2-clause-few c =
     let rows : List Format = formats_in c.args.rows.now in
-    let spelt : formats_of c.as_slice.result.now ≡ rows =
-    ap formats_of (c.as_slice.ensures.value ∙ c.in_ok-fresh.ensures.runs) ∙ formats_rows c.args.rows.now in
+    let spelt : formats_of c.in_ok-fresh.fresh.items ≡ rows =
+    ap formats_of c.in_ok-fresh.ensures.runs ∙ formats_rows c.args.rows.now in
     let joined : formats_of c.add_runs.new.runs.items ≡ formats_of c.in_ok-runs.runs.items ++ rows =
     c.in_ok-add_runs.ensures.formats ∙ ap (λ (l : List Format). formats_of c.in_ok-runs.runs.items ++ l) spelt in
     omega (
@@ -205,7 +205,6 @@ add_runs-requires-2-clause-few c =
       short_part c.runs_at-front.result.now c.in_ok-runs.runs.items 0 (c.args.from - c.spot-first.result.characters) c.in_ok-runs.ensures.formats,
       ap character_count c.runs_at-front.ensures,
       counted_around c.self.inside.pieces c.spot-first.result.index,
-      ap character_count c.as_slice-2.ensures.value,
       short_part c.runs_at-back.result.now c.in_ok-behind.behind.items (c.args.to - c.spot-last.result.characters) c.character_count.result c.in_ok-behind.ensures.formats,
       ap character_count c.runs_at-back.ensures,
       counted_around c.self.inside.pieces c.spot-last.result.index,
@@ -220,18 +219,18 @@ put-requires-clause-order c =
     let from : ℕ = c.args.from in
     let to : ℕ = c.args.to in
     let rows : List Format = formats_in c.args.rows.now in
-    let spelt : formats_of c.as_slice.result.now ≡ rows =
-    ap formats_of (c.as_slice.ensures.value ∙ c.in_ok-fresh.ensures.runs) ∙ formats_rows c.args.rows.now in
+    let spelt : formats_of c.in_ok-fresh.fresh.items ≡ rows =
+    ap formats_of c.in_ok-fresh.ensures.runs ∙ formats_rows c.args.rows.now in
     let joined : formats_of c.add_runs.new.runs.items ≡ formats_of c.in_ok-runs.runs.items ++ rows =
     c.in_ok-add_runs.ensures.formats ∙ ap (λ (l : List Format). formats_of c.in_ok-runs.runs.items ++ l) spelt in
     let whole : List Run = c.add_runs-2.new.runs.items in
     let within : to ≤ character_count (pieces_of ps) = omega (arith, c.requires.within, ap character_count c.self.view_is) in
     let size : c.character_count.result ≡ character_count (pieces_of ps) = c.character_count.ensures ∙ sym (ap character_count c.self.view_is) in
-    let behind : formats_of c.as_slice-2.result.now ≡ slice_range (formats_of c.runs_at-back.result.now) (to - last.characters) (character_count (pieces_of ps)) =
-    ap formats_of c.as_slice-2.ensures.value ∙ c.in_ok-behind.ensures.formats
+    let behind : formats_of c.in_ok-behind.behind.items ≡ slice_range (formats_of c.runs_at-back.result.now) (to - last.characters) (character_count (pieces_of ps)) =
+    c.in_ok-behind.ensures.formats
     ∙ ap (λ n. slice_range (formats_of c.runs_at-back.result.now) (to - last.characters) n) size in
     let m : IsMade ps from to first.index first.characters last.index last.characters rows whole =
-    window_made ps from to first last rows c.runs_at-front.result.now c.runs_at-back.result.now c.in_ok-runs.runs.items c.add_runs.new.runs.items c.as_slice-2.result.now whole
+    window_made ps from to first last rows c.runs_at-front.result.now c.runs_at-back.result.now c.in_ok-runs.runs.items c.add_runs.new.runs.items c.in_ok-behind.behind.items whole
     c.self.invariant.maximal c.requires.order within c.spot-first.ensures c.spot-last.ensures c.runs_at-front.ensures c.runs_at-back.ensures
     c.in_ok-runs.ensures.formats joined behind c.in_ok-add_runs-2.ensures.formats c.in_ok-add_runs-2.ensures.maximal in
     omega (
@@ -251,23 +250,23 @@ put-requires-clause-maximal c =
     let from : ℕ = c.args.from in
     let to : ℕ = c.args.to in
     let rows : List Format = formats_in c.args.rows.now in
-    let spelt : formats_of c.as_slice.result.now ≡ rows =
-    ap formats_of (c.as_slice.ensures.value ∙ c.in_ok-fresh.ensures.runs) ∙ formats_rows c.args.rows.now in
+    let spelt : formats_of c.in_ok-fresh.fresh.items ≡ rows =
+    ap formats_of c.in_ok-fresh.ensures.runs ∙ formats_rows c.args.rows.now in
     let joined : formats_of c.add_runs.new.runs.items ≡ formats_of c.in_ok-runs.runs.items ++ rows =
     c.in_ok-add_runs.ensures.formats ∙ ap (λ (l : List Format). formats_of c.in_ok-runs.runs.items ++ l) spelt in
     let whole : List Run = c.add_runs-2.new.runs.items in
     let within : to ≤ character_count (pieces_of ps) = omega (arith, c.requires.within, ap character_count c.self.view_is) in
     let size : c.character_count.result ≡ character_count (pieces_of ps) = c.character_count.ensures ∙ sym (ap character_count c.self.view_is) in
-    let behind : formats_of c.as_slice-2.result.now ≡ slice_range (formats_of c.runs_at-back.result.now) (to - last.characters) (character_count (pieces_of ps)) =
-    ap formats_of c.as_slice-2.ensures.value ∙ c.in_ok-behind.ensures.formats
+    let behind : formats_of c.in_ok-behind.behind.items ≡ slice_range (formats_of c.runs_at-back.result.now) (to - last.characters) (character_count (pieces_of ps)) =
+    c.in_ok-behind.ensures.formats
     ∙ ap (λ n. slice_range (formats_of c.runs_at-back.result.now) (to - last.characters) n) size in
     let m : IsMade ps from to first.index first.characters last.index last.characters rows whole =
-    window_made ps from to first last rows c.runs_at-front.result.now c.runs_at-back.result.now c.in_ok-runs.runs.items c.add_runs.new.runs.items c.as_slice-2.result.now whole
+    window_made ps from to first last rows c.runs_at-front.result.now c.runs_at-back.result.now c.in_ok-runs.runs.items c.add_runs.new.runs.items c.in_ok-behind.behind.items whole
     c.self.invariant.maximal c.requires.order within c.spot-first.ensures c.spot-last.ensures c.runs_at-front.ensures c.runs_at-back.ensures
     c.in_ok-runs.ensures.formats joined behind c.in_ok-add_runs-2.ensures.formats c.in_ok-add_runs-2.ensures.maximal in
     let before : List Run = pieces_of (take first.index ps) in
-    let same : before ++ (c.as_slice-3.result.now ++ pieces_of (drop c.in_ok-end.end ps)) ≡ before ++ (whole ++ pieces_of (drop (last.index + 1) ps)) =
-    ap (λ (l : List Run). before ++ (l ++ pieces_of (drop c.in_ok-end.end ps))) c.as_slice-3.ensures.value
+    let same : before ++ (c.as_slice.result.now ++ pieces_of (drop c.in_ok-end.end ps)) ≡ before ++ (whole ++ pieces_of (drop (last.index + 1) ps)) =
+    ap (λ (l : List Run). before ++ (l ++ pieces_of (drop c.in_ok-end.end ps))) c.as_slice.ensures.value
     ∙ ap (λ (l : List Run). before ++ l)
     (c.in_ok-end.ensures.same ∙ ap (λ (l : List (List Run)). whole ++ pieces_of l) (drop_least ps (last.index + 1) c.min-end.result (omega (arith, c.min-end.ensures, c.len.ensures)))) in
     subst AreMaximal (sym same) (window_maximal ps from to first.index first.characters last.index last.characters rows whole m)
@@ -280,23 +279,23 @@ put-requires-clause-short c =
     let from : ℕ = c.args.from in
     let to : ℕ = c.args.to in
     let rows : List Format = formats_in c.args.rows.now in
-    let spelt : formats_of c.as_slice.result.now ≡ rows =
-    ap formats_of (c.as_slice.ensures.value ∙ c.in_ok-fresh.ensures.runs) ∙ formats_rows c.args.rows.now in
+    let spelt : formats_of c.in_ok-fresh.fresh.items ≡ rows =
+    ap formats_of c.in_ok-fresh.ensures.runs ∙ formats_rows c.args.rows.now in
     let joined : formats_of c.add_runs.new.runs.items ≡ formats_of c.in_ok-runs.runs.items ++ rows =
     c.in_ok-add_runs.ensures.formats ∙ ap (λ (l : List Format). formats_of c.in_ok-runs.runs.items ++ l) spelt in
     let whole : List Run = c.add_runs-2.new.runs.items in
     let within : to ≤ character_count (pieces_of ps) = omega (arith, c.requires.within, ap character_count c.self.view_is) in
     let size : c.character_count.result ≡ character_count (pieces_of ps) = c.character_count.ensures ∙ sym (ap character_count c.self.view_is) in
-    let behind : formats_of c.as_slice-2.result.now ≡ slice_range (formats_of c.runs_at-back.result.now) (to - last.characters) (character_count (pieces_of ps)) =
-    ap formats_of c.as_slice-2.ensures.value ∙ c.in_ok-behind.ensures.formats
+    let behind : formats_of c.in_ok-behind.behind.items ≡ slice_range (formats_of c.runs_at-back.result.now) (to - last.characters) (character_count (pieces_of ps)) =
+    c.in_ok-behind.ensures.formats
     ∙ ap (λ n. slice_range (formats_of c.runs_at-back.result.now) (to - last.characters) n) size in
     let m : IsMade ps from to first.index first.characters last.index last.characters rows whole =
-    window_made ps from to first last rows c.runs_at-front.result.now c.runs_at-back.result.now c.in_ok-runs.runs.items c.add_runs.new.runs.items c.as_slice-2.result.now whole
+    window_made ps from to first last rows c.runs_at-front.result.now c.runs_at-back.result.now c.in_ok-runs.runs.items c.add_runs.new.runs.items c.in_ok-behind.behind.items whole
     c.self.invariant.maximal c.requires.order within c.spot-first.ensures c.spot-last.ensures c.runs_at-front.ensures c.runs_at-back.ensures
     c.in_ok-runs.ensures.formats joined behind c.in_ok-add_runs-2.ensures.formats c.in_ok-add_runs-2.ensures.maximal in
     let before : List Run = pieces_of (take first.index ps) in
-    let same : before ++ (c.as_slice-3.result.now ++ pieces_of (drop c.in_ok-end.end ps)) ≡ before ++ (whole ++ pieces_of (drop (last.index + 1) ps)) =
-    ap (λ (l : List Run). before ++ (l ++ pieces_of (drop c.in_ok-end.end ps))) c.as_slice-3.ensures.value
+    let same : before ++ (c.as_slice.result.now ++ pieces_of (drop c.in_ok-end.end ps)) ≡ before ++ (whole ++ pieces_of (drop (last.index + 1) ps)) =
+    ap (λ (l : List Run). before ++ (l ++ pieces_of (drop c.in_ok-end.end ps))) c.as_slice.ensures.value
     ∙ ap (λ (l : List Run). before ++ l)
     (c.in_ok-end.ensures.same ∙ ap (λ (l : List (List Run)). whole ++ pieces_of l) (drop_least ps (last.index + 1) c.min-end.result (omega (arith, c.min-end.ensures, c.len.ensures)))) in
     omega (
@@ -317,23 +316,23 @@ returns-clause-formats c =
     let from : ℕ = c.args.from in
     let to : ℕ = c.args.to in
     let rows : List Format = formats_in c.args.rows.now in
-    let spelt : formats_of c.as_slice.result.now ≡ rows =
-    ap formats_of (c.as_slice.ensures.value ∙ c.in_ok-fresh.ensures.runs) ∙ formats_rows c.args.rows.now in
+    let spelt : formats_of c.in_ok-fresh.fresh.items ≡ rows =
+    ap formats_of c.in_ok-fresh.ensures.runs ∙ formats_rows c.args.rows.now in
     let joined : formats_of c.add_runs.new.runs.items ≡ formats_of c.in_ok-runs.runs.items ++ rows =
     c.in_ok-add_runs.ensures.formats ∙ ap (λ (l : List Format). formats_of c.in_ok-runs.runs.items ++ l) spelt in
     let whole : List Run = c.add_runs-2.new.runs.items in
     let within : to ≤ character_count (pieces_of ps) = omega (arith, c.requires.within, ap character_count c.self.view_is) in
     let size : c.character_count.result ≡ character_count (pieces_of ps) = c.character_count.ensures ∙ sym (ap character_count c.self.view_is) in
-    let behind : formats_of c.as_slice-2.result.now ≡ slice_range (formats_of c.runs_at-back.result.now) (to - last.characters) (character_count (pieces_of ps)) =
-    ap formats_of c.as_slice-2.ensures.value ∙ c.in_ok-behind.ensures.formats
+    let behind : formats_of c.in_ok-behind.behind.items ≡ slice_range (formats_of c.runs_at-back.result.now) (to - last.characters) (character_count (pieces_of ps)) =
+    c.in_ok-behind.ensures.formats
     ∙ ap (λ n. slice_range (formats_of c.runs_at-back.result.now) (to - last.characters) n) size in
     let m : IsMade ps from to first.index first.characters last.index last.characters rows whole =
-    window_made ps from to first last rows c.runs_at-front.result.now c.runs_at-back.result.now c.in_ok-runs.runs.items c.add_runs.new.runs.items c.as_slice-2.result.now whole
+    window_made ps from to first last rows c.runs_at-front.result.now c.runs_at-back.result.now c.in_ok-runs.runs.items c.add_runs.new.runs.items c.in_ok-behind.behind.items whole
     c.self.invariant.maximal c.requires.order within c.spot-first.ensures c.spot-last.ensures c.runs_at-front.ensures c.runs_at-back.ensures
     c.in_ok-runs.ensures.formats joined behind c.in_ok-add_runs-2.ensures.formats c.in_ok-add_runs-2.ensures.maximal in
     let before : List Run = pieces_of (take first.index ps) in
-    let same : before ++ (c.as_slice-3.result.now ++ pieces_of (drop c.in_ok-end.end ps)) ≡ before ++ (whole ++ pieces_of (drop (last.index + 1) ps)) =
-    ap (λ (l : List Run). before ++ (l ++ pieces_of (drop c.in_ok-end.end ps))) c.as_slice-3.ensures.value
+    let same : before ++ (c.as_slice.result.now ++ pieces_of (drop c.in_ok-end.end ps)) ≡ before ++ (whole ++ pieces_of (drop (last.index + 1) ps)) =
+    ap (λ (l : List Run). before ++ (l ++ pieces_of (drop c.in_ok-end.end ps))) c.as_slice.ensures.value
     ∙ ap (λ (l : List Run). before ++ l)
     (c.in_ok-end.ensures.same ∙ ap (λ (l : List (List Run)). whole ++ pieces_of l) (drop_least ps (last.index + 1) c.min-end.result (omega (arith, c.min-end.ensures, c.len.ensures)))) in
     IfOk-weaker c.put.result _ _
@@ -344,22 +343,21 @@ returns-clause-formats c =
 -- ---- what is made
 pub returns-clause-count : goal.returns-clause-count
 returns-clause-count c =
-    let few : length c.as_slice-3.result.now ≤ length c.args.rows.now + 96 =
+    let few : length c.as_slice.result.now ≤ length c.args.rows.now + 96 =
     omega (
       arith,
       piece_small c.self.inside.pieces c.spot-first.result.index c.self.invariant.small,
       ap length c.runs_at-front.ensures,
       c.in_ok-runs.ensures.count,
-      ap length (c.as_slice.ensures.value ∙ c.in_ok-fresh.ensures.runs),
+      ap length c.in_ok-fresh.ensures.runs,
       length_runs c.args.rows.now,
       c.in_ok-add_runs.ensures.count,
       piece_small c.self.inside.pieces c.spot-last.result.index c.self.invariant.small,
       ap length c.runs_at-back.ensures,
       c.in_ok-behind.ensures.count,
-      ap length c.as_slice-2.ensures.value,
       c.in_ok-add_runs-2.ensures.count,
       c.in_ok-end.ensures.few,
-      ap length c.as_slice-3.ensures.value,
+      ap length c.as_slice.ensures.value,
       ap length c.self.view_is,
     ) in
     IfOk-weaker c.put.result _ _ (λ _ e. omega (arith, e, few, ap length c.self.view_is)) c.put.ensures.count
@@ -371,16 +369,15 @@ returns-clause-spent c =
       piece_small c.self.inside.pieces c.spot-first.result.index c.self.invariant.small,
       ap length c.runs_at-front.ensures,
       c.in_ok-runs.ensures.count,
-      ap length (c.as_slice.ensures.value ∙ c.in_ok-fresh.ensures.runs),
+      ap length c.in_ok-fresh.ensures.runs,
       length_runs c.args.rows.now,
       c.in_ok-add_runs.ensures.count,
       piece_small c.self.inside.pieces c.spot-last.result.index c.self.invariant.small,
       ap length c.runs_at-back.ensures,
       c.in_ok-behind.ensures.count,
-      ap length c.as_slice-2.ensures.value,
       c.in_ok-add_runs-2.ensures.count,
       c.in_ok-end.ensures.few,
-      ap length c.as_slice-3.ensures.value,
+      ap length c.as_slice.ensures.value,
       ap length c.self.view_is,
       c.runs_of.ensures.spent,
       c.put.ensures.spent,
