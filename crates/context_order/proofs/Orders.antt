@@ -10,7 +10,9 @@ use Rattle.semantics.specs.Step.{Program}
 use Rattle.abstract_state.specs.declared.refusal.Refusal.{Refusal}
 use Rattle.tracked_state.specs.Rules.{TrackedWays, entry, joined}
 use Rattle.tracked_state.specs.Tracked.{TrackedSituation}
-use Rattle.verifier.specs.Decides.{led, jump_target, either_way, trimmed, arrived, Waits, Awaited, awaited, led_on, passed, stepped_over, awaited_at, known_before, Refuses, IsAllowed}
+use Rattle.verifier.proofs.Folding.{known_refuses, carried_refuses}
+use Rattle.verifier.specs.Awaited.{Waits, Awaited, awaited, led_on, passed, stepped_over, awaited_at}
+use Rattle.verifier.specs.Decides.{led, jump_target, either_way, trimmed, arrived, Refuses, IsAllowed}
 
 abbrev pub Order : Type 1
 Order = TrackedSituation → TrackedSituation → Type 0
@@ -112,12 +114,12 @@ over_below within settled one two slot (Some (Some insn)) a x ordered here all h
     (arrived_below within settled one two slot a x ordered here h) (λ e. fine insn e refl) h.waits
 
 walks_below : (within : Order) (settled : TrackedSituation → Type 0) (one two : Profile) (program : Program) (slot : ℕ) → Ordered within settled one two → AreSettled settled one program → IsAllowed two program → AwaitedBelow within (awaited_at one program slot) (awaited_at two program slot)
-unfolding awaited_at known_before
+unfolding awaited_at
 walks_below within settled one two program zero ordered all allowed = record { falls = ordered.entry; waits = λ to. tt }
 walks_below within settled one two program (suc slot) ordered all allowed =
     over_below within settled one two slot (slice_get program slot) (awaited_at one program slot) (awaited_at two program slot) ordered (all.arrives slot) (all.waits (suc slot))
     (walks_below within settled one two program slot ordered all allowed)
-    (λ insn e starts refused. allowed.below slot e (slice_get_within program slot (Some insn) starts) (record { insn = insn; starts = starts; refused = refused }))
+    (λ insn e starts refused. allowed.below slot e (slice_get_within program slot (Some insn) starts) (record { insn = insn; starts = starts; refused = known_refuses two program slot insn e refused }))
 
 err_too : (within : Order) (r q : Result TrackedWays Refusal) (e : Refusal) → r ≡ Err e → LedBelow within r q → (f : Refusal) × (q ≡ Err f)
 err_too within r (Err f) e is h = (f, refl)
@@ -130,13 +132,12 @@ refused_too within settled one two slot insn (Some a) (Some x) e ordered h refus
     err_too within (led one slot insn a) (led two slot insn x) e refused (ordered.led slot insn a x h)
 
 pub accepts_too : (within : Order) (settled : TrackedSituation → Type 0) (one two : Profile) (program : Program) → Ordered within settled one two → AreSettled settled one program → IsAllowed two program → IsAllowed one program
-unfolding known_before
 accepts_too within settled one two program ordered all allowed = record {
   structured = allowed.structured;
   below = λ slot fault less refused.
       let walks = walks_below within settled one two program slot ordered all allowed in
       let also =
       refused_too within settled one two slot refused.insn (arrived one (awaited_at one program slot).falling ((awaited_at one program slot).waiting slot)) (arrived two (awaited_at two program slot).falling ((awaited_at two program slot).waiting slot)) fault ordered
-      (arrived_below within settled one two slot (awaited_at one program slot) (awaited_at two program slot) ordered (all.arrives slot) walks) refused.refused in
-      allowed.below slot also.0 less (record { insn = refused.insn; starts = refused.starts; refused = also.1 });
+      (arrived_below within settled one two slot (awaited_at one program slot) (awaited_at two program slot) ordered (all.arrives slot) walks) (carried_refuses one program slot refused.insn fault refused.refused) in
+      allowed.below slot also.0 less (record { insn = refused.insn; starts = refused.starts; refused = known_refuses two program slot refused.insn also.0 also.1 });
 }

@@ -10,7 +10,9 @@ use Rattle.abstract_state.specs.declared.refusal.Refusal.{Refusal}
 use Rattle.abstract_state.specs.Situation as alone
 use Rattle.tracked_state.specs.Rules.{TrackedWays}
 use Rattle.tracked_state.specs.Tracked.{TrackedSituation}
-use Rattle.verifier.specs.Decides.{led, jump_target, either_way, trimmed, arrived, Waits, Awaited, led_on, passed, stepped_over, awaited_at, known_before, Refuses, IsAllowed}
+use Rattle.verifier.proofs.Folding.{known_is_carried, known_refuses}
+use Rattle.verifier.specs.Awaited.{Waits, Awaited, led_on, passed, stepped_over, awaited_at}
+use Rattle.verifier.specs.Decides.{led, jump_target, either_way, trimmed, arrived, known_before, Refuses, IsAllowed}
 use Rattle.context_order.specs.LinkLength.{MayLoadLength, LoadsNoLength}
 use Rattle.context_order.proofs.OneTwo.{Agrees, leads}
 
@@ -66,15 +68,17 @@ allowed_at program slot insn fault allowed starts refused =
     allowed.below slot fault (slice_get_within program slot (Some insn) starts) (record { insn = insn; starts = starts; refused = refused })
 
 walks_same : (program : Program) (slot : ℕ) → IsAllowed One program → LoadsNoLength program → SameAwaited (awaited_at Two program slot) (awaited_at One program slot)
-unfolding awaited_at known_before
+unfolding awaited_at
 walks_same program zero allowed other = record { falls = refl; waits = λ to. refl }
 walks_same program (suc slot) allowed other =
     over_same slot (slice_get program slot) (awaited_at Two program slot) (awaited_at One program slot) (walks_same program slot allowed other)
-    (λ insn fault starts refused. allowed_at program slot insn fault allowed starts refused) (λ insn starts may. other slot insn starts may)
+    (λ insn fault starts refused. allowed_at program slot insn fault allowed starts (known_refuses One program slot insn fault refused)) (λ insn starts may. other slot insn starts (subst (λ (o : Option TrackedSituation). MayLoadLength insn o) (sym (known_is_carried One program slot)) may))
 
 known_same : (program : Program) (slot : ℕ) → IsAllowed One program → LoadsNoLength program → known_before Two program slot ≡ known_before One program slot
-unfolding known_before
-known_same program slot allowed other = arrived_same slot (awaited_at Two program slot) (awaited_at One program slot) (walks_same program slot allowed other)
+known_same program slot allowed other =
+    known_is_carried Two program slot
+    ∙ arrived_same slot (awaited_at Two program slot) (awaited_at One program slot) (walks_same program slot allowed other)
+    ∙ sym (known_is_carried One program slot)
 
 refused_by : (r q : Result TrackedWays Refusal) (fault : Refusal) → Agrees r q → q ≡ Err fault → (e : Refusal) × (r ≡ Err e)
 refused_by (Err e) q fault agrees refused = (e, refl)

@@ -212,14 +212,7 @@ impl SharedRuns {
         add_runs(&mut runs, behind, cuts_back)?;
         let end = self.pieces.len().min(last.index + 1);
         let end = fill(&self.pieces, &mut runs, end)?;
-        put(
-            alloc,
-            &self.pieces,
-            first.index,
-            end,
-            runs.as_slice(),
-            budget,
-        )
+        put(alloc, &self.pieces, first.index, end, runs, budget)
     }
 
     /// The index of the run of the character at a place: how many runs end at the place or before it. From the end of
@@ -442,21 +435,21 @@ fn put(
     pieces: &PieceTree<RunPiece>,
     from: usize,
     to: usize,
-    runs: &[Run],
+    runs: Vec<Run>,
     budget: &mut Budget,
 ) -> Result<SharedRuns, AllocError>
     requires order { from ≤ to }
     requires within { to ≤ length pieces.now }
     requires filled { All (λ piece. 0 < length piece) pieces.now }
     requires small { All (λ piece. length piece ≤ 48) pieces.now }
-    requires maximal { AreMaximal (pieces_of (take from pieces.now) ++ (runs.now ++ pieces_of (drop to pieces.now))) }
-    requires short { character_count (pieces_of (take from pieces.now) ++ (runs.now ++ pieces_of (drop to pieces.now)))
-        ≤ 2097152 }
+    requires maximal { AreMaximal (pieces_of (take from pieces.now) ++ (runs.items ++ pieces_of (drop to pieces.now))) }
+    requires short { character_count
+        (pieces_of (take from pieces.now) ++ (runs.items ++ pieces_of (drop to pieces.now))) ≤ 2097152 }
     ensures runs { IfOk result (λ next. next
-        ≡ pieces_of (take from pieces.now) ++ (runs.now ++ pieces_of (drop to pieces.now))) }
-    ensures count { IfOk result (λ next. length next ≤ length (pieces_of pieces.now) + length runs.now) }
-    ensures spent { budget.old ≤ budget.new + (put_bytes (length runs.now)
-        + root_bytes (length (pieces_of pieces.now) + length runs.now)) }
+        ≡ pieces_of (take from pieces.now) ++ (runs.items ++ pieces_of (drop to pieces.now))) }
+    ensures count { IfOk result (λ next. length next ≤ length (pieces_of pieces.now) + length runs.items) }
+    ensures spent { budget.old ≤ budget.new + (put_bytes (length runs.items)
+        + root_bytes (length (pieces_of pieces.now) + length runs.items)) }
     ensures less { budget.new ≤ budget.old }
 {
     let made = cut(alloc, runs, budget)?;

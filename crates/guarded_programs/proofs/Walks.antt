@@ -18,7 +18,9 @@ use Rattle.tracked_state.specs.Tracked.{TrackedSituation}
 use Rattle.tracked_state.specs.Rules.{TrackedWays, entry, stepped, exit}
 use Rattle.verifier.specs.Structure.{IsStructured}
 use Rattle.verifier.specs.declared.refusal.StructureFault.TheVariants.{BackwardJump}
-use Rattle.verifier.specs.Decides.{ways, led, jump_target, either_way, trimmed_situation, trimmed, arrived, Waits, Awaited, with_jump, led_on, passed, stepped_over, awaited_at, known_before, Refuses, IsAllowed}
+use Rattle.verifier.proofs.Folding.{known_is_carried}
+use Rattle.verifier.specs.Awaited.{Waits, Awaited, with_jump, led_on, passed, stepped_over, awaited_at}
+use Rattle.verifier.specs.Decides.{ways, led, jump_target, either_way, trimmed_situation, trimmed, arrived, known_before, Refuses, IsAllowed}
 use Rattle.guarded_rules.specs.Facts.{Register, Slot, Value, Fact, Holds, Long, Stored}
 use Rattle.guarded_rules.specs.Says.{Has, Entails}
 use Rattle.guarded_rules.proofs.Situations.{joined_entails}
@@ -182,11 +184,11 @@ each_there program slot insn starts j less none =
     absurd (subst (λ (o : Option (Option Insn)). IsSlot o) (sym (slice_get-get_or program j (Some insn) (omega (arith, within, less))) ∙ none) tt)
 
 known_holds : (profile : Profile) (program : Program) (outline : Outline) (slot : ℕ) (insn : Insn) → IsStructured program → IsOutline profile program outline → StartsAt program slot insn → (f : Fact) → Contains (outline slot) f → EntailsTracked (known_before profile program slot) f
-unfolding known_before
 known_holds profile program outline slot insn structured is starts f c =
     let a = awaited_at profile program slot in
     let kept : Kept outline slot a = kept_at profile program outline slot structured is (each_there program slot insn starts) in
-    arrives profile f a.falling (a.waiting slot) (is.there slot f c) (kept.falls f c) (kept.waits slot f c)
+    subst (λ (o : Option TrackedSituation). EntailsTracked o f) (sym (known_is_carried profile program slot))
+    (arrives profile f a.falling (a.waiting slot) (is.there slot f c) (kept.falls f c) (kept.waits slot f c))
 
 pub guarded_allowed : (profile : Profile) (program : Program) → IsGuarded profile program → IsAllowed profile program
 guarded_allowed profile program guarded = record {

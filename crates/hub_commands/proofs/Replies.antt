@@ -12,9 +12,9 @@ use Rattle.span_context.specs.declared.context.Facts.{Facts}
 use Rattle.bpf_words.specs.declared.refusal.WordError.{WordError}
 use Rattle.bpf_words.specs.declared.refusal.WordError.TheVariants.{Empty, TooLong, LengthNotEight, Slot}
 use Rattle.bpf_words.specs.Words.{IsProgram, IsRefused, program_of}
-use Rattle.span_context.specs.Context.{span_bytes, context_bytes}
+use Rattle.span_context.specs.Context.{SpanBytes, span_bytes, context_bytes}
 use Rattle.semantics.specs.declared.Outcome.{Outcome}
-use Rattle.semantics.specs.State.{start}
+use Rattle.semantics.specs.State.{State, start}
 use Rattle.semantics.specs.Outcomes.{outcome_from}
 use Rattle.semantics.specs.Step.{Program}
 use Rattle.semantics.specs.Safe.{SafeIn}
@@ -24,6 +24,7 @@ use Rattle.verifier.specs.Judged.{Rejects, IsJudged}
 use Rattle.verifier.specs.Decides.{IsAllowed}
 use Rattle.assembler.specs.declared.fault.AsmError.{AsmError}
 use Rattle.assembler.specs.Text.{AsmText, AsmFault}
+use Rattle.step_lines.specs.Steps.{steps_text}
 use Rattle.hub_requests.specs.declared.SpanOptions.{SpanOptions}
 use Rattle.hub_requests.specs.declared.Shown.{Shown}
 use Rattle.hub_requests.specs.declared.Shown.TheVariants as shows
@@ -36,7 +37,7 @@ use Rattle.hub_commands.specs.declared.hint.Hint.{Hint}
 use Rattle.hub_commands.specs.Hexadecimal.{slot_lines, without_blanks}
 use Rattle.hub_commands.specs.Hints.{digits_hint}
 use Rattle.hub_commands.specs.Reasons.{refusal}
-use Rattle.hub_commands.specs.Programs.{IsAsmReply, no_source, assembled, IsProgramReply, no_hex, no_program, program, facts_of, link_of, bytes_of, steps_of, run_outcome, outcome_reply, IsSpanReply, no_text, ran, IsTracedReply, not_run, traced, IsShownReply}
+use Rattle.hub_commands.specs.Programs.{IsAsmReply, no_source, assembled, IsProgramReply, no_hex, no_program, program, facts_of, link_of, bytes_of, steps_of, run_outcome, run_steps_text, outcome_reply, IsSpanReply, no_text, ran, IsTracedReply, not_run, traced, IsShownReply}
 
 -- what holds of an answer, by what it was said to be
 pub mapped : {A E : Type 0} (P Q : A → Type 0) (result : Result A E) → IfOk result P → ((x : A) → P x → Q x) → IfOk result Q
@@ -123,16 +124,16 @@ pub judged : (profile : Profile) (code : Program) (given : Result Program Verify
 judged profile code (Ok same) left e is seen structured rejects allowed = subst (IsJudged profile code) (sym e) (structured, subst (SafeIn profile) is seen, allowed)
 judged profile code (Err error) left e is seen structured rejects allowed = subst (IsJudged profile code) (sym e) rejects
 
--- the outcome of a run on what was made of the options and the text
-run_as_defined : (options : SpanOptions) (bytes input text lent link context : List ℕ) (facts : Facts) (limit : ℕ) (given : Outcome) → text ≡ input → facts ≡ facts_of options text
-    → context ≡ context_bytes facts → lent ≡ text → link ≡ link_of options → limit ≡ steps_of options.limit (program_of bytes) → given ≡ outcome_from (program_of bytes) (span_bytes context lent link) limit start
-    → given ≡ run_outcome options input bytes
-run_as_defined options bytes input text lent link context facts limit given same told made lends linked most is =
-    let by_context = ap (λ (c : List ℕ). outcome_from (program_of bytes) (span_bytes c lent link) limit start) (made ∙ ap context_bytes told) in
-    let by_text = ap (λ (t : List ℕ). outcome_from (program_of bytes) (span_bytes (context_bytes (facts_of options text)) t link) limit start) lends in
-    let by_link = ap (λ (l : List ℕ). outcome_from (program_of bytes) (span_bytes (context_bytes (facts_of options text)) text l) limit start) linked in
-    let by_input = ap (λ (t : List ℕ). outcome_from (program_of bytes) (bytes_of options t) limit start) same in
-    let by_limit = ap (λ (n : ℕ). outcome_from (program_of bytes) (bytes_of options input) n start) most in
+-- what is told of a run on what was made of the options and the text
+run_as_defined : {T : Type 0} (tell : Program → SpanBytes → ℕ → State → T) (options : SpanOptions) (bytes input text lent link context : List ℕ) (facts : Facts) (limit : ℕ) (given : T) → text ≡ input → facts ≡ facts_of options text
+    → context ≡ context_bytes facts → lent ≡ text → link ≡ link_of options → limit ≡ steps_of options.limit (program_of bytes) → given ≡ tell (program_of bytes) (span_bytes context lent link) limit start
+    → given ≡ tell (program_of bytes) (bytes_of options input) (steps_of options.limit (program_of bytes)) start
+run_as_defined {T} tell options bytes input text lent link context facts limit given same told made lends linked most is =
+    let by_context = ap (λ (c : List ℕ). tell (program_of bytes) (span_bytes c lent link) limit start) (made ∙ ap context_bytes told) in
+    let by_text = ap (λ (t : List ℕ). tell (program_of bytes) (span_bytes (context_bytes (facts_of options text)) t link) limit start) lends in
+    let by_link = ap (λ (l : List ℕ). tell (program_of bytes) (span_bytes (context_bytes (facts_of options text)) text l) limit start) linked in
+    let by_input = ap (λ (t : List ℕ). tell (program_of bytes) (bytes_of options t) limit start) same in
+    let by_limit = ap (λ (n : ℕ). tell (program_of bytes) (bytes_of options input) n start) most in
     is ∙ by_context ∙ by_text ∙ by_link ∙ by_input ∙ by_limit
 
 pub span_ran : {E : Type 0} (options : SpanOptions) (bytes input text lent link context : List ℕ) (facts : Facts) (limit : ℕ) (given : Outcome) (result : Result Answer E)
@@ -140,17 +141,21 @@ pub span_ran : {E : Type 0} (options : SpanOptions) (bytes input text lent link 
     → limit ≡ steps_of options.limit (program_of bytes) → given ≡ outcome_from (program_of bytes) (span_bytes context lent link) limit start → IfOk result (λ reply. reply ≡ outcome_reply given) → IfOk result (IsSpanReply options input bytes)
 span_ran options bytes input text lent link context facts limit given (Ok reply) same utf8 short told made lends linked most is e =
     let few : length input ≤ 131072 = omega (arith, ap length same) in
-    ran (record { characters = utf8; short = few }) (e ∙ ap outcome_reply (run_as_defined options bytes input text lent link context facts limit given same told made lends linked most is))
+    ran (record { characters = utf8; short = few }) (e ∙ ap outcome_reply (run_as_defined outcome_from options bytes input text lent link context facts limit given same told made lends linked most is))
 span_ran options bytes input text lent link context facts limit given (Err e) same utf8 short told made lends linked most is h = tt
 
 pub span_traced : {E : Type 0} (options : SpanOptions) (bytes input text lent link context : List ℕ) (facts : Facts) (limit : ℕ) (given : Outcome) (steps : List ℕ) (result : Result Answer E)
     → text ≡ input → IsUtf8 input → length text ≤ 131072 → facts ≡ facts_of options text → context ≡ context_bytes facts → lent ≡ text → link ≡ link_of options
-    → limit ≡ steps_of options.limit (program_of bytes) → given ≡ outcome_from (program_of bytes) (span_bytes context lent link) limit start → IfOk result (λ reply. reply ≡ behind steps (outcome_reply given)) → IfOk result (IsTracedReply options input bytes)
-span_traced options bytes input text lent link context facts limit given steps (Ok reply) same utf8 short told made lends linked most is e =
+    → limit ≡ steps_of options.limit (program_of bytes) → given ≡ outcome_from (program_of bytes) (span_bytes context lent link) limit start
+    → steps ≡ steps_text (program_of bytes) (span_bytes context lent link) limit start
+    → IfOk result (λ reply. reply ≡ behind steps (outcome_reply given)) → IfOk result (IsTracedReply options input bytes)
+span_traced options bytes input text lent link context facts limit given steps (Ok reply) same utf8 short told made lends linked most is printed e =
     let few : length input ≤ 131072 = omega (arith, ap length same) in
-    let ended = run_as_defined options bytes input text lent link context facts limit given same told made lends linked most is in
-    traced steps (record { characters = utf8; short = few }) (e ∙ ap (λ (o : Outcome). behind steps (outcome_reply o)) ended)
-span_traced options bytes input text lent link context facts limit given steps (Err e) same utf8 short told made lends linked most is h = tt
+    let ended = run_as_defined outcome_from options bytes input text lent link context facts limit given same told made lends linked most is in
+    let shown = run_as_defined steps_text options bytes input text lent link context facts limit steps same told made lends linked most printed in
+    traced (record { characters = utf8; short = few })
+    (e ∙ ap (λ (s : List ℕ). behind s (outcome_reply given)) shown ∙ ap (λ (o : Outcome). behind (run_steps_text options input bytes) (outcome_reply o)) ended)
+span_traced options bytes input text lent link context facts limit given steps (Err e) same utf8 short told made lends linked most is printed h = tt
 
 too_long : (options : SpanOptions) (text bytes : List ℕ) (reply : Answer) → 131072 < length text → IsSpanReply options (take 131073 text) bytes reply → IsSpanReply options text bytes reply
 too_long options text bytes reply long (no_text wrong e) = no_text (λ right. absurd (omega (arith, right.short))) e
@@ -169,7 +174,7 @@ past_limit options text bytes reply given =
 
 too_long_traced : (options : SpanOptions) (text bytes : List ℕ) (reply : Answer) → 131072 < length text → IsTracedReply options (take 131073 text) bytes reply → IsTracedReply options text bytes reply
 too_long_traced options text bytes reply long (not_run wrong e) = not_run (λ right. absurd (omega (arith, right.short))) e
-too_long_traced options text bytes reply long (traced steps right e) = absurd (omega (arith, right.short, length-take 131073 text))
+too_long_traced options text bytes reply long (traced right e) = absurd (omega (arith, right.short, length-take 131073 text))
 
 past_limit_traced : (options : SpanOptions) (text bytes : List ℕ) (reply : Answer) → IsTracedReply options (take 131073 text) bytes reply → IsTracedReply options text bytes reply
 past_limit_traced options text bytes reply given =

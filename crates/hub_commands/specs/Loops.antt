@@ -3,9 +3,11 @@ use Rattle.std.specs.Prelude.{◌≡◌, ℕ, List, ◌++◌, length, codes, Res
 use Rattle.std.specs.Fmt.{decimal}
 use Rattle.bpf_words.specs.Words.{program_of}
 use Rattle.semantics.specs.Step.{Program}
+use Rattle.block_layout.specs.Meaning.{IsForward}
 use Rattle.loop_labels.specs.Potential.{Bound}
+use Rattle.loop_verifier.specs.Labelled.{HasLabels}
 use Rattle.filters.specs.Accepted.{IsAccepted, IsRefused}
-use Rattle.filters.specs.Filters.{IsBoundOf}
+use Rattle.filters.specs.Filters.{IsBoundOf, constant_bound}
 use Rattle.filters.specs.declared.refusal.FilterError.{FilterError}
 use Rattle.filters.specs.declared.rules.RuleSet.TheVariants.{Looping}
 use Rattle.refusals.specs.declared.reason.Reason.TheVariants.{Unverified}
@@ -27,9 +29,15 @@ bound_line slots bound =
     ++ (decimal bound.per_byte ++ (codes " * length + " ++ (decimal bound.per_link_byte
     ++ codes " * link length\n")))))))
 
+-- a bound that is told of a program: without a jump back as many steps as it has slots, else one with inductive labels
+pub record IsTold (program : Program) (bound : Bound) : Type 0 where
+  pub ends : IsBoundOf program bound
+  pub straight : IsForward program → bound ≡ constant_bound (length program)
+  pub looping : ¬ IsForward program → HasLabels program bound
+
 -- of a program: how many slots it has, and a bound of its steps; or why it isn't accepted
 pub data IsLoopsReply (bytes : List ℕ) (reply : Answer) : Type 0 where
-  accepted : (bound : Bound) → IsAccepted Looping (program_of bytes) → IsBoundOf (program_of bytes) bound
+  accepted : (bound : Bound) → IsAccepted Looping (program_of bytes) → IsTold (program_of bytes) bound
       → reply ≡ done (bound_line (length (program_of bytes)) bound)
       → IsLoopsReply bytes reply
   rejected : (error : FilterError) → IsRefused Looping (program_of bytes) error → reply ≡ refusal (Unverified error)

@@ -25,6 +25,7 @@ use Rattle.verifier.specs.Decides.{IsAllowed}
 use Rattle.assembler.specs.declared.fault.AsmError.{AsmError}
 use Rattle.assembler.specs.Text.{AsmText, AsmFault}
 use Rattle.disassembler.specs.Canonical.{canonical}
+use Rattle.step_lines.specs.Steps.{steps_text}
 use Rattle.filters.specs.Filters.{longest_run}
 use Rattle.filters.specs.declared.refusal.FilterError.TheVariants.{Program as OfProgram}
 use Rattle.hub_requests.specs.declared.RunLimit.{RunLimit}
@@ -133,11 +134,16 @@ pub data IsSpanReply (options : SpanOptions) (text : List ℕ) (bytes : List ℕ
   ran : IsSpanText text → reply ≡ outcome_reply (run_outcome options text bytes)
       → IsSpanReply options text bytes reply
 
--- of a program on a span with a text: what `run` answers, behind further text where the program is run
+-- what is printed of the steps of that run
+abbrev pub run_steps_text : SpanOptions → List ℕ → List ℕ → List ℕ
+run_steps_text options text bytes =
+    steps_text (program_of bytes) (bytes_of options text) (steps_of options.limit (program_of bytes)) start
+
+-- of a program on a span with a text: what `run` answers, behind the text of the steps where the program is run
 pub data IsTracedReply (options : SpanOptions) (text : List ℕ) (bytes : List ℕ) (reply : Answer) : Type 0 where
   not_run : ¬ (IsSpanText text) → reply ≡ refusal TextRefused → IsTracedReply options text bytes reply
-  traced : (steps : List ℕ) → IsSpanText text
-      → reply ≡ behind steps (outcome_reply (run_outcome options text bytes))
+  traced : IsSpanText text
+      → reply ≡ behind (run_steps_text options text bytes) (outcome_reply (run_outcome options text bytes))
       → IsTracedReply options text bytes reply
 
 -- of a program on a span with a text, by what is shown of the run: how it ends, or first also its steps

@@ -1,17 +1,17 @@
 //! What the verifier knows before a refused instruction of a program with a jump back, where runs come there first.
 use crate::knowledge::insn_at;
-use crate::known_lines::KnownLines;
-use crate::listing::push_instruction;
-use crate::loop_lines::FINE;
 use crate::refused_for::refused_for;
 use abstract_state::refusal::Refusal;
 use bpf_words::encoding::encode;
 use bpf_words::instruction::{Arithmetic, Insn, Operand, Width};
 use bpf_words::register::Register;
 use bpf_words::words::Words;
-use loop_search::states::{SearchError, find_states};
+use known_lines::lines::KnownLines;
+use loop_search::states::{SearchError, Visits, find_states};
+use loop_verifier::verify::FINE;
 use span_context::profile::Profile;
 use std::alloc::{AllocError, Global};
+use step_lines::lines::push_instruction;
 use tracked_state::state::TrackedState;
 
 /// The bytes of the program with a jump in place of the instruction at a slot, to an end with the verdict 0.
@@ -49,7 +49,7 @@ fn known_first(
     let Ok(ended) = Words::new(&bytes) else {
         return Ok(None);
     };
-    match find_states(alloc, &ended, FINE) {
+    match find_states(alloc, &ended, FINE, &mut Visits::all()) {
         Ok(mut states) => Ok(states.get_mut(slot).and_then(|state| state.take())),
         Err(SearchError::OutOfMemory) => Err(AllocError),
         Err(_) => Ok(None),

@@ -18,7 +18,6 @@ pub mod hint;
 mod input;
 mod join;
 mod knowledge;
-mod known_lines;
 mod listing;
 mod loop_lines;
 mod output;

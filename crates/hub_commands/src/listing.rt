@@ -1,18 +1,12 @@
 //! The instructions of a program, and what the verifier knows before each (docs/PROGRAMS.md, "What the verifier knew").
 use crate::knowledge::{Knowledge, Way, insn_at};
-use crate::known_lines::KnownLines;
-use bpf_words::instruction::Insn;
 use bpf_words::words::Words;
-use disassembler::line::Line;
+use known_lines::lines::KnownLines;
 use std::alloc::{AllocError, Global};
+use step_lines::lines::push_instruction;
 
 /// Of so many ways to a slot it is said what was known on each.
 const MOST_WAYS: usize = 8;
-
-/// Appends the instruction of a slot.
-pub fn push_instruction(text: &mut String, slot: usize, insn: Insn) -> Result<(), AllocError> {
-    writeln!(text, "slot {slot}: {}", Line(insn))
-}
 
 /// Appends the instructions from one slot to another.
 pub fn push_instructions(
@@ -93,7 +87,7 @@ fn push_ways(
     for way in &ways {
         write!(text, "  from slot {}: ", way.from)?;
         let known = KnownLines::of(alloc, knowledge.profile, &way.known)?;
-        known.push_in_line(alloc, text, lines)?;
+        known.push_in_line(text, lines)?;
         text.push('\n')?;
     }
     Ok(())
@@ -111,7 +105,7 @@ fn push_changes(
 ) -> Result<(), AllocError> {
     match (earlier, lines) {
         (Some(earlier), Some(lines)) if !knowledge.is_jumped_to(slot) => {
-            lines.push_beside(alloc, text, earlier)
+            lines.push_beside(text, earlier)
         }
         (_, Some(lines)) => {
             push_ways(alloc, text, knowledge, slot, lines)?;

@@ -1,22 +1,17 @@
 //! What the verifier knows of a program with a jump back (docs/PROGRAMS.md, "What the verifier knew").
-use crate::known_lines::KnownLines;
-use crate::listing::push_instruction;
 use crate::potential_lines::{push_excess, push_potential};
 use bpf_words::instruction::Insn;
 use bpf_words::words::Words;
+use known_lines::lines::KnownLines;
 use label_potentials::potential::Potential;
 use loop_bounds::bounds::{Potentials, find_potentials};
 use loop_check::label::Bound;
-use loop_search::states::{SearchError, find_states};
+use loop_search::states::{SearchError, Visits, find_states};
+use loop_verifier::verify::{COARSE, FINE};
 use span_context::profile::Profile;
 use std::alloc::{AllocError, Global};
+use step_lines::lines::push_instruction;
 use tracked_state::state::TrackedState;
-
-/// How fine the verifier's first search is.
-const COARSE: u8 = 2;
-
-/// How fine its second search is, where the first finds no bound. It tells why there is none.
-pub(crate) const FINE: u8 = 22;
 
 /// What is known before each slot, where a run can come there.
 type States = Vec<Option<Box<TrackedState>>>;
@@ -84,7 +79,7 @@ struct Found {
 impl Found {
     /// What a search of this fineness finds, unless it ends before.
     fn by(alloc: Global, words: &Words<'_>, fine: u8) -> Result<Option<Found>, AllocError> {
-        let states = match find_states(alloc, words, fine) {
+        let states = match find_states(alloc, words, fine, &mut Visits::all()) {
             Ok(states) => states,
             Err(SearchError::OutOfMemory) => return Err(AllocError),
             Err(_) => return Ok(None),
@@ -154,7 +149,7 @@ impl Found {
             if jumps.iter().any(|jump| jump.to == slot) {
                 earlier = None;
             }
-            push_lines(alloc, text, &earlier, &lines)?;
+            push_lines(text, &earlier, &lines)?;
             earlier = lines;
         }
         Ok(())
@@ -192,13 +187,12 @@ impl Found {
 
 /// Appends what is known before a slot: where something is known from the one before on, what has changed.
 fn push_lines(
-    alloc: Global,
     text: &mut String,
     earlier: &Option<KnownLines>,
     lines: &Option<KnownLines>,
 ) -> Result<(), AllocError> {
     match (earlier, lines) {
-        (Some(earlier), Some(lines)) => lines.push_beside(alloc, text, earlier),
+        (Some(earlier), Some(lines)) => lines.push_beside(text, earlier),
         (None, Some(lines)) => lines.push(text),
         (_, None) => text.push_str("  no run comes there\n"),
     }

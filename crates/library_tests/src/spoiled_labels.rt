@@ -9,7 +9,7 @@ use label_potentials::potential::Potential;
 use loop_bounds::bounds::find_potentials;
 use loop_check::check::check;
 use loop_check::label::{Bound, Label};
-use loop_search::states::find_states;
+use loop_search::states::{Visits, find_states};
 use semantics::Outcome;
 use span_context::context::{Context, Facts};
 use std::alloc::{AllocError, Global};
@@ -123,7 +123,7 @@ fn copy_of(alloc: Global, label: &Option<Label>) -> Result<Option<Label>, AllocE
 impl Labels {
     /// What a search finds, with so many growths.
     fn found(alloc: Global, words: &Words<'_>, growths: u8) -> Result<Option<Labels>, AllocError> {
-        let Ok(states) = find_states(alloc, words, growths) else {
+        let Ok(states) = find_states(alloc, words, growths, &mut Visits::all()) else {
             return Ok(None);
         };
         let Some(potentials) = find_potentials(alloc, words, &states)? else {

@@ -52,6 +52,25 @@ fn add(
     Ok(())
 }
 
+/// Whether what is known before a comparison tells that no run goes along its edge where it holds, or along the other.
+fn is_dead(states: States<'_>, slot: usize, insn: &Insn, taken: bool) -> bool {
+    match (states.get(slot), insn) {
+        (
+            Some(Some(known)),
+            Insn::Branch {
+                width,
+                comparison,
+                left,
+                right,
+                ..
+            },
+        ) => known
+            .state
+            .is_dead_edge(*width, *comparison, *left, right, taken),
+        _ => false,
+    }
+}
+
 /// The edges from slots to which runs come.
 pub(crate) fn edges_of(
     alloc: Global,
@@ -66,9 +85,13 @@ pub(crate) fn edges_of(
         if !is_reached(states, slot) {
             continue;
         }
-        let jump = insn.distance().and_then(|distance| target(slot, distance));
-        add(&mut edges, states, slot, jump)?;
-        add(&mut edges, states, slot, next(slot, &insn))?;
+        if !is_dead(states, slot, &insn, true) {
+            let jump = insn.distance().and_then(|distance| target(slot, distance));
+            add(&mut edges, states, slot, jump)?;
+        }
+        if !is_dead(states, slot, &insn, false) {
+            add(&mut edges, states, slot, next(slot, &insn))?;
+        }
     }
     Ok(edges)
 }

@@ -18,8 +18,30 @@ use tracked_state::branch::TrackedEdges;
 use tracked_state::state::TrackedState;
 use tracked_state::stop::Stop;
 
-/// How many slots a search visits at most.
-pub const MOST_VISITS: u32 = 4_096;
+/// How many slots the searches for one program's states visit at most, all together.
+pub const MOST_VISITS: u32 = 3_072;
+
+/// How many slots the searches for a program's states may still visit.
+#[derive(Clone, Copy)]
+pub struct Visits {
+    left: u32,
+}
+
+impl Visits {
+    /// As many as the searches for one program have.
+    pub fn all() -> Visits {
+        Visits { left: MOST_VISITS }
+    }
+
+    /// Takes one. Whether there was one.
+    fn take(&mut self) -> bool {
+        if self.left == 0 {
+            return false;
+        }
+        self.left -= 1;
+        true
+    }
+}
 
 /// How many slots a program has at most that is searched. What is known of one takes some five kilobytes.
 pub const MOST_SEARCHED: usize = 1_024;
@@ -67,7 +89,7 @@ struct Search {
     fine: u8,
     places: Vec<Place>,
     pass: u32,
-    visits: u32,
+    visits: Visits,
     grew: bool,
 }
 
@@ -314,10 +336,9 @@ impl Search {
         let Some(state) = self.taken_at(slot) else {
             return Ok(());
         };
-        if self.visits >= MOST_VISITS {
+        if !self.visits.take() {
             return Err(SearchError::Limit);
         }
-        self.visits += 1;
         // the state is back before its edges arrive, which may lead here
         let edges = edges_from(self.alloc, slot, insn, &state);
         self.put_back(slot, state);
@@ -336,14 +357,19 @@ fn error_at(slot: usize, stop: Stop) -> SearchError {
 
 impl Search {
     /// A search that has come to nothing but the start.
-    fn new(alloc: Global, words: &Words<'_>, fine: u8) -> Result<Search, SearchError> {
+    fn new(
+        alloc: Global,
+        words: &Words<'_>,
+        fine: u8,
+        visits: Visits,
+    ) -> Result<Search, SearchError> {
         let mut search = Search {
             alloc,
             thresholds: Thresholds::of(alloc, words)?,
             fine,
             places: places_of(alloc, words)?,
             pass: 1,
-            visits: 0,
+            visits,
             grew: false,
         };
         let first = Box::new(alloc, entry(alloc)?)?;
@@ -373,26 +399,36 @@ impl Search {
 /// How many passes there are at most.
 const MOST_PASSES: usize = 100;
 
-/// What is known before each slot, where a run can come there: what no edge leads out of.
+/// What is known before each slot, where a run can come there: what no edge leads out of. What the search visits is
+/// taken from `visits`.
 pub fn find_states(
     alloc: Global,
     words: &Words<'_>,
     fine: u8,
+    visits: &mut Visits,
 ) -> Result<Vec<Option<Box<TrackedState>>>, SearchError> {
     if words.len() > MOST_SEARCHED {
         return Err(SearchError::Limit);
     }
-    let mut search = Search::new(alloc, words, fine)?;
-    for _pass in 0..MOST_PASSES {
-        if !search.pass(words)? {
-            return Ok(search.states(alloc)?);
-        }
-        search.begin_again()?;
-    }
-    Err(SearchError::Limit)
+    let mut search = Search::new(alloc, words, fine, *visits)?;
+    let ended = search.go_on(words);
+    *visits = search.visits;
+    ended?;
+    Ok(search.states(alloc)?)
 }
 
 impl Search {
+    /// Makes passes until no head grows.
+    fn go_on(&mut self, words: &Words<'_>) -> Result<(), SearchError> {
+        for _pass in 0..MOST_PASSES {
+            if !self.pass(words)? {
+                return Ok(());
+            }
+            self.begin_again()?;
+        }
+        Err(SearchError::Limit)
+    }
+
     /// The states to which the last pass came.
     fn states(mut self, alloc: Global) -> Result<Vec<Option<Box<TrackedState>>>, AllocError> {
         let mut states = Vec::with_capacity(alloc, self.places.len())?;

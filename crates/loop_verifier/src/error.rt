@@ -23,6 +23,17 @@ pub enum LoopError {
     OutOfMemory,
 }
 
+impl LoopError {
+    /// Why two searches came to nothing: where the first one found what is known, but no bound, that is why, though the
+    /// second one's knowledge refuses an instruction.
+    pub(crate) fn before(self, second: LoopError) -> LoopError {
+        match (self, second) {
+            (LoopError::NoMeasure | LoopError::TooManySteps, LoopError::Refused { .. }) => self,
+            _ => second,
+        }
+    }
+}
+
 impl From<AllocError> for LoopError {
     fn from(_e: AllocError) -> LoopError {
         LoopError::OutOfMemory

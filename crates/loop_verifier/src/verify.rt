@@ -14,7 +14,7 @@ use label_potentials::potential::Potential;
 use loop_bounds::bounds::find_potentials;
 use loop_check::check::check;
 use loop_check::label::{Bound, Label};
-use loop_search::states::find_states;
+use loop_search::states::{Visits, find_states};
 use span_context::context::{LINK_LIMIT, TEXT_LIMIT};
 use std::alloc::{AllocError, Global};
 use tracked_state::state::TrackedState;
@@ -22,10 +22,11 @@ use tracked_state::state::TrackedState;
 /// How many steps a run may take at most.
 pub const STEP_LIMIT: u64 = 1 << 23;
 
-/// After how many growths a bound goes to few limits: at first, and where that isn't enough.
-const COARSE: u8 = 2;
+/// After how many growths a bound goes to few limits: at first.
+pub const COARSE: u8 = 2;
 
-const FINE: u8 = 22;
+/// The same where the first search isn't enough.
+pub const FINE: u8 = 22;
 
 /// The bound that a potential is, whatever it is less by.
 fn bound_at(potential: &Potential) -> Option<Bound> {
@@ -84,12 +85,17 @@ fn is_within_limit(bound: &Bound) -> bool
 }
 
 /// Searches with so many growths to fine thresholds, and checks what is found.
-fn verify_at(alloc: Global, words: &Words<'_>, fine: u8) -> Result<Bound, LoopError>
+fn verify_at(
+    alloc: Global,
+    words: &Words<'_>,
+    fine: u8,
+    visits: &mut Visits,
+) -> Result<Bound, LoopError>
     ensures ends { IfOk result (λ bound. EndsWithin Three (program_of words.now) (bound_of bound)) }
     ensures limit { IfOk result (λ bound. most_steps (bound_of bound) ≤ longest_run) }
     ensures labels { IfOk result (λ bound. HasLabels (program_of words.now) (bound_of bound)) }
 {
-    let states = find_states(alloc, words, fine)?;
+    let states = find_states(alloc, words, fine, visits)?;
     let Some(potentials) = find_potentials(alloc, words, &states)? else {
         return Err(LoopError::NoMeasure);
     };
@@ -115,10 +121,14 @@ pub fn verify_loops(alloc: Global, words: &Words<'_>) -> Result<Bound, LoopError
     ensures limit { IfOk result (λ bound. most_steps (bound_of bound) ≤ longest_run) }
     ensures labels { IfOk result (λ bound. HasLabels (program_of words.now) (bound_of bound)) }
 {
-    match verify_at(alloc, words, COARSE) {
+    let mut visits = Visits::all();
+    match verify_at(alloc, words, COARSE, &mut visits) {
         Ok(bound) => Ok(bound),
         Err(LoopError::OutOfMemory) => Err(LoopError::OutOfMemory),
         Err(LoopError::SearchLimit) => Err(LoopError::SearchLimit),
-        Err(_) => verify_at(alloc, words, FINE),
+        Err(first) => match verify_at(alloc, words, FINE, &mut visits) {
+            Ok(bound) => Ok(bound),
+            Err(second) => Err(first.before(second)),
+        },
     }
 }

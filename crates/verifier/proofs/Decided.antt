@@ -19,9 +19,11 @@ use Rattle.verifier.specs.declared.refusal.VerifyError.TheVariants.{Structure, S
 use Rattle.verifier.specs.Structure.{IsStructured}
 use Rattle.verifier.specs.Reaches.{IsStateBelow}
 use Rattle.verifier.specs.Waiting.{Waiting, waiting_at}
-use Rattle.verifier.specs.Decides.{either_way, trimmed, arrived, Waits, passed, stepped_over, awaited_at, known_before, Refuses, IsRefusedAt, IsAllowedBelow, FirstRefusal}
+use Rattle.verifier.specs.Awaited.{Waits, passed, stepped_over, awaited_at}
+use Rattle.verifier.specs.Decides.{either_way, trimmed, arrived, known_before, Refuses, IsRefusedAt, IsAllowedBelow, FirstRefusal}
 use Rattle.verifier.specs.Decided.{WaitsFrom, Awaits, Passes, NamesSlot, NamesFirst}
 use Rattle.verifier.proofs.Deciding.{trimmed_is, some_is, none_is, either_none}
+use Rattle.verifier.proofs.Folding.{known_is_carried, known_refuses, carried_refuses}
 
 -- ---- what arrives at a slot
 trimmed_in : (o : Option TrackedState) (x : Option TrackedSituation) → IsTrackedIn o x → IsTrackedIn o (option_map trimmed x)
@@ -103,9 +105,9 @@ sound_more profile program slot sound here = record {
 
 pub sound_over : (profile : Profile) (program : Program) (slot : ℕ) (insn : Insn) (o : Option TrackedState) (waiting : Waiting) → StartsAt program slot insn → IsAllowedBelow profile program slot
     → (let a = awaited_at profile program slot in Passes profile slot insn (arrived profile a.falling (a.waiting slot)) a.waiting o waiting → IsAllowedBelow profile program (slot + 1))
-unfolding known_before
 sound_over profile program slot insn o waiting starts sound passes =
-    sound_more profile program slot sound (λ fault bad. passes.allowed fault (refused_there profile program slot insn fault starts bad))
+    sound_more profile program slot sound
+    (λ fault bad. passes.allowed fault (carried_refuses profile program slot insn fault (refused_there profile program slot insn fault starts bad)))
 
 pub sound_second : (profile : Profile) (program : Program) (slot : ℕ) → slice_get program slot ≡ Some None → IsAllowedBelow profile program slot → IsAllowedBelow profile program (slot + 1)
 sound_second profile program slot second sound =
@@ -113,17 +115,17 @@ sound_second profile program slot second sound =
 
 pub names_first : (profile : Profile) (program : Program) (slot : ℕ) (insn : Insn) (e : VerifyError) → StartsAt program slot insn → IsAllowedBelow profile program slot
     → (let a = awaited_at profile program slot in NamesSlot profile slot insn (arrived profile a.falling (a.waiting slot)) e → NamesFirst profile program e)
-unfolding known_before
 names_first profile program slot insn e starts sound names at fault is =
-    let (same, bad) = names at fault is in
+    let (same, carried) = names at fault is in
+    let bad = known_refuses profile program slot insn fault carried in
     subst (λ k. FirstRefusal profile program k fault) (sym same)
     (record { before = sound; here = record { insn = insn; starts = starts; refused = bad } })
 
 pub known_is : (profile : Profile) (program : Program) (slot : ℕ) (o : Option TrackedState) → (let a = awaited_at profile program slot in IsTrackedIn o (either_way profile a.falling (a.waiting slot)) → IsTrackedIn o (known_before profile program slot))
-unfolding known_before
 known_is profile program slot o is =
     let a = awaited_at profile program slot in
-    trimmed_in o (either_way profile a.falling (a.waiting slot)) is
+    subst (λ (x : Option TrackedSituation). IsTrackedIn o x) (sym (known_is_carried profile program slot))
+    (trimmed_in o (either_way profile a.falling (a.waiting slot)) is)
 
 -- ---- what is known before each slot, in a list
 abbrev pub KnownBelow : Profile → Program → ℕ → List (Option TrackedState) → Type 0

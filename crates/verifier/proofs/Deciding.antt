@@ -34,7 +34,8 @@ use Rattle.tracked_state.specs.Tracking.{after_tracked, FlowsTracked, AnswersTra
 use Rattle.tracked_state.specs.Rules.{TrackedWays, stepped, branched, joined, exit}
 use Rattle.verifier.specs.Waiting.{Waiting, waiting_at, as_tracked}
 use Rattle.verifier.specs.declared.waiting.Awaiting.{Awaiting}
-use Rattle.verifier.specs.Decides.{led, ways, jump_target, either_way, trimmed, trimmed_situation, trimmed_marking, Waits, with_jump, passed}
+use Rattle.verifier.specs.Awaited.{Waits, with_jump, passed}
+use Rattle.verifier.specs.Decides.{led, ways, jump_target, either_way, trimmed, trimmed_situation, trimmed_marking}
 use Rattle.verifier.specs.Decided.{WaitsFrom, Passes}
 use Rattle.verifier.proofs.Waits.{waiting-set_other, set_twice}
 use Rattle.verifier.proofs.Passing.{IsStraight}

@@ -17,4 +17,5 @@ pub mod Listing
 pub mod Rejecting
 pub mod Unsets
 pub mod Deciding
+pub mod Folding
 pub mod Decided

@@ -9,7 +9,8 @@ use Rattle.tracked_state.specs.Tracked.{TrackedSituation, IsTrackedIn}
 use Rattle.verifier.specs.declared.refusal.VerifyError.{VerifyError}
 use Rattle.verifier.specs.declared.refusal.VerifyError.TheVariants.{State as StateRefused}
 use Rattle.verifier.specs.Waiting.{Waiting, waiting_at}
-use Rattle.verifier.specs.Decides.{Waits, Awaited, passed, Refuses, FirstRefusal}
+use Rattle.verifier.specs.Awaited.{Waits, Awaited, passed}
+use Rattle.verifier.specs.Decides.{Refuses, FirstRefusal}
 
 abbrev pub WaitsFrom : ℕ → Waiting → Waits → Type 0
 WaitsFrom from waiting w = (at : ℕ) → from ≤ at → IsTrackedIn (waiting_at waiting at) (w at)

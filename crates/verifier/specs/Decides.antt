@@ -62,48 +62,59 @@ trimmed t = tracked (option_map trimmed_marking t.marking) (trimmed_situation t.
 abbrev pub arrived : Profile → Option TrackedSituation → Option TrackedSituation → Option TrackedSituation
 arrived profile falling waiting = option_map trimmed (either_way profile falling waiting)
 
--- what jumps lead to each slot
-abbrev pub Waits : Type 0
-Waits = ℕ → Option TrackedSituation
+-- what is known before slots, as far as it is known
+abbrev pub Before : Type 0
+Before = ℕ → Option TrackedSituation
 
--- what falls into a slot from the one below it, and what the jumps below it lead to each slot
-pub record Awaited : Type 0 where
-  pub falling : Option TrackedSituation
-  pub waiting : Waits
+-- where an instruction leads, by what is known before it; nowhere if no run comes there, or if it is refused
+abbrev pub granted : Result TrackedWays Refusal → TrackedWays
+granted (Ok w) = w
+granted (Err fault) = ways None None
 
-abbrev pub awaited : Option TrackedSituation → Waits → Awaited
-awaited falling waiting = record { falling = falling; waiting = waiting }
+unfoldable pub ways_from : Profile → ℕ → Insn → Option TrackedSituation → TrackedWays
+ways_from profile slot insn None = ways None None
+ways_from profile slot insn (Some t) = granted (led profile slot insn t)
 
--- what a jump leads to its target is joined to what the jumps before it led there
-abbrev pub with_jump : Profile → ℕ → Option TrackedSituation → Waits → Waits
-with_jump profile target taken waiting slot =
-    if nat_eq slot target then either_way profile (waiting slot) taken else waiting slot
+-- the edge on to the next instruction; the second slot of a wide load is gone past
+abbrev pub fall_past : Profile → ℕ → Option (Option Insn) → Option TrackedSituation → Option TrackedSituation
+    → Option TrackedSituation
+fall_past profile slot (Some (Some insn)) known above = (ways_from profile slot insn known).untaken
+fall_past profile slot place known above = above
 
--- beyond an instruction; one that is refused leads nothing on
-abbrev pub led_on : Profile → ℕ → Insn → Waits → Result TrackedWays Refusal → Awaited
-led_on profile slot insn waiting (Ok w) =
-    awaited w.untaken (with_jump profile (jump_target slot (jump_of insn)) w.taken waiting)
-led_on profile slot insn waiting (Err fault) = awaited None waiting
+-- what falls into a slot; into the first one, what each run begins with
+unfoldable pub falls_into : Profile → Program → Before → ℕ → Option TrackedSituation
+falls_into profile program before zero = Some (entry profile)
+falls_into profile program before (suc slot) =
+    fall_past profile slot (slice_get program slot) (before slot) (falls_into profile program before slot)
 
-unfoldable pub passed : Profile → ℕ → Insn → Option TrackedSituation → Waits → Awaited
-passed profile slot insn None waiting = awaited None waiting
-passed profile slot insn (Some t) waiting = led_on profile slot insn waiting (led profile slot insn t)
+-- the edge of a jump from a slot, where it leads to this one
+abbrev pub jump_to : Profile → ℕ → ℕ → Option (Option Insn) → Option TrackedSituation → Option TrackedSituation
+jump_to profile to slot (Some (Some insn)) known =
+    if nat_eq to (jump_target slot (jump_of insn)) then (ways_from profile slot insn known).taken else None
+jump_to profile to slot place known = None
 
--- beyond a slot; at the second one of a wide load stands no instruction
-unfoldable pub stepped_over : Profile → ℕ → Option (Option Insn) → Awaited → Awaited
-stepped_over profile slot (Some (Some insn)) a =
-    passed profile slot insn (arrived profile a.falling (a.waiting slot)) a.waiting
-stepped_over profile slot place a = a
+-- what the jumps from the slots below one lead to a slot, joined by rising slots
+unfoldable pub jumps_to : Profile → Program → Before → ℕ → ℕ → Option TrackedSituation
+jumps_to profile program before to zero = None
+jumps_to profile program before to (suc slot) =
+    either_way profile (jumps_to profile program before to slot)
+    (jump_to profile to slot (slice_get program slot) (before slot))
 
-unfoldable pub awaited_at : Profile → Program → ℕ → Awaited
-awaited_at profile program zero = awaited (Some (entry profile)) (λ slot. None)
-awaited_at profile program (suc slot) =
-    stepped_over profile slot (slice_get program slot) (awaited_at profile program slot)
+-- what all edges into a slot lead there
+abbrev pub known_from : Profile → Program → Before → ℕ → Option TrackedSituation
+known_from profile program before slot =
+    arrived profile (falls_into profile program before slot) (jumps_to profile program before slot slot)
+
+-- what is known before the slots below one, from the first on
+unfoldable pub known_below : Profile → Program → ℕ → Before
+known_below profile program zero slot = None
+known_below profile program (suc last) slot =
+    if nat_eq slot last
+    then known_from profile program (known_below profile program last) last
+    else known_below profile program last slot
 
 unfoldable pub known_before : Profile → Program → ℕ → Option TrackedSituation
-known_before profile program slot =
-    let a = awaited_at profile program slot in
-    arrived profile a.falling (a.waiting slot)
+known_before profile program slot = known_from profile program (known_below profile program slot) slot
 
 -- ---- the verifier's decision
 -- the rules refuse an instruction at a slot, where a run may come

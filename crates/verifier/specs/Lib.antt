@@ -9,4 +9,5 @@ pub mod Judged
 pub mod Framed
 pub mod Unset
 pub mod Decides
+pub mod Awaited
 pub mod Decided

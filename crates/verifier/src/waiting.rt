@@ -8,7 +8,8 @@ ghost use Rattle.tracked_state.specs.Tracked.{TrackedSituation, IsTracked, IsTra
 ghost use Rattle.tracked_state.specs.Tracking.{after_tracked};
 ghost use Rattle.verifier.specs.Waiting.{MarksBelow, MarksBelowIn, WaitBelow, as_tracked, unboxed, waiting_at};
 ghost use Rattle.verifier.specs.Walk.{Keeps};
-ghost use Rattle.verifier.specs.Decides.{Waits, either_way, with_jump};
+ghost use Rattle.verifier.specs.Awaited.{Waits, with_jump};
+ghost use Rattle.verifier.specs.Decides.{either_way};
 ghost use Rattle.verifier.specs.Decided.{WaitsFrom};
 ghost use Rattle.verifier.specs.Arises.{Arises, ArisesAt, AllArise, IsTarget};
 ghost use Rattle.semantics.specs.Step.{Program};

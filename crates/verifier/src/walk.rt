@@ -23,9 +23,11 @@ ghost use Rattle.program_reads.specs.Runs.{ContainsRuns};
 ghost use Rattle.program_reads.specs.Loads.{CoversRuns};
 ghost use Rattle.verifier.specs.Reaches.{AriseEverywhere, ContainEachRun, Covers, ListsBelow, IsStateBelow};
 ghost use Rattle.verifier.specs.Reaches.{TracksRuns, TrackAllRuns};
-ghost use Rattle.verifier.specs.Decides.{Waits, IsAllowedBelow, KnownEach};
+ghost use Rattle.verifier.specs.Awaited.{Waits};
+ghost use Rattle.verifier.specs.Decides.{IsAllowedBelow, KnownEach};
 ghost use Rattle.verifier.specs.Decided.{WaitsFrom, Awaits, Passes, NamesSlot, NamesFirst};
-ghost use Rattle.verifier.specs.Decides.{led, trimmed, arrived, with_jump, awaited_at, known_before};
+ghost use Rattle.verifier.specs.Awaited.{with_jump, awaited_at};
+ghost use Rattle.verifier.specs.Decides.{led, trimmed, arrived, known_before};
 
 use crate::refusal::VerifyError;
 use crate::waiting::Waiting;

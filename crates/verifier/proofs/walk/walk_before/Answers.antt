@@ -1,7 +1,7 @@
 use Rattle.bpf_words.specs.Words.{program_of}
 use Rattle.tracked_state.specs.Tracking.{after_tracked}
 use Rattle.verifier.proofs.Reaching.{all_joined, tracked_runs}
-use Rattle.verifier.specs.Decides.{awaited_at}
+use Rattle.verifier.specs.Awaited.{awaited_at}
 use Rattle.verifier.proofs.Decided.{known_is, le_self}
 use Rattle.verifier.proofs.walk.walk_before.Goals as goal
 

@@ -19,7 +19,8 @@ use Rattle.verifier.proofs.Reaching.{tracked_runs, TrackRunsBelow, AriseBelow, a
 use Rattle.verifier.proofs.walk.walk_each.Goals.{in-Some+in_ok-flow, in_default}
 use Rattle.tracked_state.specs.Tracked.{IsTrackedIn}
 use Rattle.verifier.specs.declared.refusal.VerifyError.TheVariants.{OutOfMemory}
-use Rattle.verifier.specs.Decides.{IsAllowedBelow, arrived, either_way, awaited_at}
+use Rattle.verifier.specs.Awaited.{awaited_at}
+use Rattle.verifier.specs.Decides.{IsAllowedBelow, arrived, either_way}
 use Rattle.verifier.specs.Decided.{NamesFirst, NamesSlot, Passes, WaitsFrom}
 use Rattle.verifier.proofs.Decided.{KnownBelow, known_none, known_more, known_is, arrived_once, awaits_first, sound_first, awaits_over, awaits_second, sound_over, sound_second, names_first, waits_beyond, waits_after, le_self}
 use Rattle.verifier.proofs.walk.walk_each.Goals as goal

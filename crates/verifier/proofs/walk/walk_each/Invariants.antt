@@ -4,7 +4,8 @@ use Rattle.tracked_state.specs.Tracking.{after_tracked}
 use Rattle.verifier.specs.Waiting.{MarksBelowIn, WaitBelow}
 use Rattle.verifier.specs.Arises.{AllArise, FallsAs}
 use Rattle.verifier.specs.Reaches.{Covers}
-use Rattle.verifier.specs.Decides.{IsAllowedBelow, awaited_at}
+use Rattle.verifier.specs.Awaited.{awaited_at}
+use Rattle.verifier.specs.Decides.{IsAllowedBelow}
 use Rattle.verifier.specs.Decided.{Awaits}
 use Rattle.verifier.proofs.Decided.{KnownBelow}
 use Rattle.verifier.proofs.Reaching.{TrackRunsBelow, AriseBelow}

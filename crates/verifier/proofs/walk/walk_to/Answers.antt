@@ -8,7 +8,8 @@ use Rattle.verifier.specs.Reaches.{Covers, ListsBelow}
 use Rattle.verifier.proofs.Walking.{jumps_within, begins, stepped_over}
 use Rattle.verifier.proofs.walk.walk_to.Goals.{in-Some+in_ok-flow, in_default}
 use Rattle.verifier.specs.declared.refusal.VerifyError.TheVariants.{OutOfMemory}
-use Rattle.verifier.specs.Decides.{IsAllowedBelow, awaited_at}
+use Rattle.verifier.specs.Awaited.{awaited_at}
+use Rattle.verifier.specs.Decides.{IsAllowedBelow}
 use Rattle.verifier.specs.Decided.{Awaits, NamesFirst}
 use Rattle.verifier.proofs.Decided.{awaits_first, sound_first, awaits_over, awaits_second, sound_over, sound_second, names_first, waits_after, le_self}
 use Rattle.verifier.proofs.walk.walk_to.Goals as goal

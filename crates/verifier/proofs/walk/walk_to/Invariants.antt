@@ -5,7 +5,8 @@ use Rattle.verifier.specs.Waiting.{MarksBelowIn, WaitBelow}
 use Rattle.verifier.specs.Arises.{AllArise, FallsAs}
 use Rattle.verifier.specs.Walk.{Follows}
 use Rattle.verifier.specs.Reaches.{Covers, ListsBelow}
-use Rattle.verifier.specs.Decides.{IsAllowedBelow, awaited_at}
+use Rattle.verifier.specs.Awaited.{awaited_at}
+use Rattle.verifier.specs.Decides.{IsAllowedBelow}
 use Rattle.verifier.specs.Decided.{Awaits}
 use Rattle.verifier.proofs.walk.walk_to.Given as goal
 

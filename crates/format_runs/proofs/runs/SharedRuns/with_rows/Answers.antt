@@ -265,9 +265,8 @@ put-requires-clause-maximal c =
     c.self.invariant.maximal c.requires.order within c.spot-first.ensures c.spot-last.ensures c.runs_at-front.ensures c.runs_at-back.ensures
     c.in_ok-runs.ensures.formats joined behind c.in_ok-add_runs-2.ensures.formats c.in_ok-add_runs-2.ensures.maximal in
     let before : List Run = pieces_of (take first.index ps) in
-    let same : before ++ (c.as_slice.result.now ++ pieces_of (drop c.in_ok-end.end ps)) ≡ before ++ (whole ++ pieces_of (drop (last.index + 1) ps)) =
-    ap (λ (l : List Run). before ++ (l ++ pieces_of (drop c.in_ok-end.end ps))) c.as_slice.ensures.value
-    ∙ ap (λ (l : List Run). before ++ l)
+    let same : before ++ (c.fill.new.runs.items ++ pieces_of (drop c.in_ok-end.end ps)) ≡ before ++ (whole ++ pieces_of (drop (last.index + 1) ps)) =
+    ap (λ (l : List Run). before ++ l)
     (c.in_ok-end.ensures.same ∙ ap (λ (l : List (List Run)). whole ++ pieces_of l) (drop_least ps (last.index + 1) c.min-end.result (omega (arith, c.min-end.ensures, c.len.ensures)))) in
     subst AreMaximal (sym same) (window_maximal ps from to first.index first.characters last.index last.characters rows whole m)
 
@@ -294,9 +293,8 @@ put-requires-clause-short c =
     c.self.invariant.maximal c.requires.order within c.spot-first.ensures c.spot-last.ensures c.runs_at-front.ensures c.runs_at-back.ensures
     c.in_ok-runs.ensures.formats joined behind c.in_ok-add_runs-2.ensures.formats c.in_ok-add_runs-2.ensures.maximal in
     let before : List Run = pieces_of (take first.index ps) in
-    let same : before ++ (c.as_slice.result.now ++ pieces_of (drop c.in_ok-end.end ps)) ≡ before ++ (whole ++ pieces_of (drop (last.index + 1) ps)) =
-    ap (λ (l : List Run). before ++ (l ++ pieces_of (drop c.in_ok-end.end ps))) c.as_slice.ensures.value
-    ∙ ap (λ (l : List Run). before ++ l)
+    let same : before ++ (c.fill.new.runs.items ++ pieces_of (drop c.in_ok-end.end ps)) ≡ before ++ (whole ++ pieces_of (drop (last.index + 1) ps)) =
+    ap (λ (l : List Run). before ++ l)
     (c.in_ok-end.ensures.same ∙ ap (λ (l : List (List Run)). whole ++ pieces_of l) (drop_least ps (last.index + 1) c.min-end.result (omega (arith, c.min-end.ensures, c.len.ensures)))) in
     omega (
       arith,
@@ -331,9 +329,8 @@ returns-clause-formats c =
     c.self.invariant.maximal c.requires.order within c.spot-first.ensures c.spot-last.ensures c.runs_at-front.ensures c.runs_at-back.ensures
     c.in_ok-runs.ensures.formats joined behind c.in_ok-add_runs-2.ensures.formats c.in_ok-add_runs-2.ensures.maximal in
     let before : List Run = pieces_of (take first.index ps) in
-    let same : before ++ (c.as_slice.result.now ++ pieces_of (drop c.in_ok-end.end ps)) ≡ before ++ (whole ++ pieces_of (drop (last.index + 1) ps)) =
-    ap (λ (l : List Run). before ++ (l ++ pieces_of (drop c.in_ok-end.end ps))) c.as_slice.ensures.value
-    ∙ ap (λ (l : List Run). before ++ l)
+    let same : before ++ (c.fill.new.runs.items ++ pieces_of (drop c.in_ok-end.end ps)) ≡ before ++ (whole ++ pieces_of (drop (last.index + 1) ps)) =
+    ap (λ (l : List Run). before ++ l)
     (c.in_ok-end.ensures.same ∙ ap (λ (l : List (List Run)). whole ++ pieces_of l) (drop_least ps (last.index + 1) c.min-end.result (omega (arith, c.min-end.ensures, c.len.ensures)))) in
     IfOk-weaker c.put.result _ _
     (λ _ e. ap formats_of (e ∙ same) ∙ window_formats ps from to first.index first.characters last.index last.characters rows whole m
@@ -343,7 +340,7 @@ returns-clause-formats c =
 -- ---- what is made
 pub returns-clause-count : goal.returns-clause-count
 returns-clause-count c =
-    let few : length c.as_slice.result.now ≤ length c.args.rows.now + 96 =
+    let few : length c.fill.new.runs.items ≤ length c.args.rows.now + 96 =
     omega (
       arith,
       piece_small c.self.inside.pieces c.spot-first.result.index c.self.invariant.small,
@@ -357,7 +354,6 @@ returns-clause-count c =
       c.in_ok-behind.ensures.count,
       c.in_ok-add_runs-2.ensures.count,
       c.in_ok-end.ensures.few,
-      ap length c.as_slice.ensures.value,
       ap length c.self.view_is,
     ) in
     IfOk-weaker c.put.result _ _ (λ _ e. omega (arith, e, few, ap length c.self.view_is)) c.put.ensures.count
@@ -377,7 +373,6 @@ returns-clause-spent c =
       c.in_ok-behind.ensures.count,
       c.in_ok-add_runs-2.ensures.count,
       c.in_ok-end.ensures.few,
-      ap length c.as_slice.ensures.value,
       ap length c.self.view_is,
       c.runs_of.ensures.spent,
       c.put.ensures.spent,

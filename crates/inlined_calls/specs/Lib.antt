@@ -1,0 +1,4 @@
+pub mod Calls
+pub mod Inlined
+pub mod Samples
+pub mod Kept

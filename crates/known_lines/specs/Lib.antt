@@ -1,0 +1,2 @@
+pub mod KnownLines
+pub mod Worked

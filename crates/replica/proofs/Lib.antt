@@ -1,0 +1,14 @@
+mod Rising
+mod Soundness
+mod Causality
+mod Stretches
+mod Missing
+mod Convergence
+mod Noting
+mod Accepting
+mod Buffering
+mod Opening
+mod Waiting
+mod Showing
+mod Delivering
+mod Handing

@@ -1,0 +1,5 @@
+pub mod Messages
+pub mod Knowing
+pub mod Readiness
+pub mod Buffers
+pub mod Replicas

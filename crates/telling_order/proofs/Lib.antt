@@ -1,0 +1,3 @@
+pub mod Lengths
+pub mod Hearing
+pub mod Orders
