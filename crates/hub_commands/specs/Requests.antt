@@ -1,5 +1,5 @@
 -- What is answered to each command.
-use Rattle.std.specs.Prelude.{ℕ, List, string_bytes}
+use Rattle.std.specs.Prelude.{ℕ, true, false, List, string_bytes}
 use Rattle.filters.specs.declared.rules.RuleSet.TheVariants.{Straight, Looping}
 use Rattle.hub_requests.specs.declared.Command.{Command}
 use Rattle.hub_requests.specs.declared.Command.TheVariants.{Asm, Check, Dis, Join, Run, Spans, Straighten}
@@ -16,8 +16,8 @@ use Rattle.hub_commands.specs.Straightened.{IsStraightenReply}
 abbrev pub IsReplyTo : Command → List ℕ → Answer → Type 0
 IsReplyTo Asm = IsAsmReply
 IsReplyTo (Check Verdict (Straight profile)) = IsCheckReply profile
-IsReplyTo (Check Reason (Straight profile)) = IsExplainReply profile
-IsReplyTo (Check Listing (Straight profile)) = IsExplainReply profile
+IsReplyTo (Check Reason (Straight profile)) = IsExplainReply false profile
+IsReplyTo (Check Listing (Straight profile)) = IsExplainReply true profile
 IsReplyTo (Check detail Looping) = IsLoopsCheckReply
 IsReplyTo Dis = IsDisReply
 IsReplyTo (Join size) = IsJoinReply size

@@ -1,7 +1,7 @@
 //! The command `check --context 4`: whether a program, which may loop, is accepted.
 ghost use Rattle.std.specs.Prelude.{◌≡◌, ℕ, List, IfOk, IfSome};
 ghost use Rattle.bpf_words.specs.Words.{program_of};
-ghost use Rattle.filters.specs.Accepted.{IsAccepted};
+ghost use Rattle.filters.specs.Accepted.{IsAccepted, IsRefused};
 ghost use Rattle.filters.specs.declared.rules.RuleSet.TheVariants.{Looping};
 ghost use Rattle.hub_commands.specs.Answers.{IsAnswered};
 ghost use Rattle.hub_commands.specs.Digits.{AreDigits};
@@ -16,7 +16,6 @@ use crate::explain::{listing, push_refused};
 use crate::failure::Failure;
 use crate::first_turn::push_first_turn;
 use crate::hex_input::HexInput;
-use crate::listing::push_instructions;
 use crate::loop_lines::{push_bounded, push_unbounded};
 use crate::output::write_answer;
 use block_layout::structure::first_back;
@@ -26,6 +25,7 @@ use filters::filter::Filter;
 use filters::refusal::FilterError;
 use filters::rules::RuleSet;
 use hub_requests::Detail;
+use program_listing::instructions::push_instructions;
 use program_reads::lines::push_reads;
 use refusals::reason::Reason;
 use span_context::profile::Profile;
@@ -73,11 +73,26 @@ fn push_known(
     words: &Words<'_>,
     error: FilterError,
     is_whole: bool,
-) -> Result<(), AllocError> {
-    match error {
-        FilterError::Program(error) if first_back(words).is_none() => {
+) -> Result<(), AllocError>
+    requires { IsRefused Looping (program_of words.now) error }
+{
+    match (error, first_back(words)) {
+        (FilterError::Program(error), None) => {
             push_refused(alloc, text, words, Profile::Three, error, is_whole)
         }
+        _ => push_known_looping(alloc, text, words, error, is_whole),
+    }
+}
+
+/// The same of a program with a jump back.
+fn push_known_looping(
+    alloc: Global,
+    text: &mut String,
+    words: &Words<'_>,
+    error: FilterError,
+    is_whole: bool,
+) -> Result<(), AllocError> {
+    match error {
         FilterError::Program(VerifyError::Structure { slot, .. }) => {
             push_instructions(text, words, slot, slot)
         }
@@ -92,24 +107,39 @@ fn push_known(
     }
 }
 
+/// Appends what is known of an accepted program.
+fn push_accepted(
+    alloc: Global,
+    text: &mut String,
+    words: &Words<'_>,
+    filter: &Filter,
+    is_whole: bool,
+) -> Result<(), AllocError>
+    requires { IsAccepted Looping (program_of words.now) }
+{
+    match (filter.reads(), first_back(words)) {
+        (Some(reads), None) => {
+            push_reads(text, &reads, Profile::Three)?;
+            text.push_str(listing(alloc, words, Profile::Three, is_whole)?.as_str())
+        }
+        _ => push_bounded(alloc, text, words, &filter.bound(), is_whole),
+    }
+}
+
 /// What is said further of a program, by how much is asked for.
 fn further(
     alloc: Global,
     words: &Words<'_>,
     judged: &Result<Filter, FilterError>,
     detail: Detail,
-) -> Result<String, AllocError> {
+) -> Result<String, AllocError>
+    requires { IsJudgment (program_of words.now) judged.now }
+{
     let mut text = String::new(alloc);
     let is_whole = matches!(detail, Detail::Listing);
     match (detail, judged) {
         (Detail::Verdict, _) => {}
-        (_, Ok(filter)) => match filter.reads() {
-            Some(reads) => {
-                push_reads(&mut text, &reads, Profile::Three)?;
-                text.push_str(listing(alloc, words, Profile::Three, is_whole)?.as_str())?;
-            }
-            None => push_bounded(alloc, &mut text, words, &filter.bound(), is_whole)?,
-        },
+        (_, Ok(filter)) => push_accepted(alloc, &mut text, words, filter, is_whole)?,
         (_, Err(error)) => push_known(alloc, &mut text, words, *error, is_whole)?,
     }
     Ok(text)

@@ -1,5 +1,6 @@
 //! What the verifier knows of a program, printed behind what `check` answers.
-ghost use Rattle.std.specs.Prelude.{◌≡◌, ℕ, pos, ◌+◌, ◌<◌, ◌≤◌, ◌++◌, List, Some, true, IfOk, IfSome, slice_index};
+ghost use Rattle.std.specs.Prelude.{◌≡◌, ℕ, pos, ◌+◌, ◌<◌, ◌≤◌, ◌++◌, List, Some, true, IfOk, OnOk, IfSome};
+ghost use Rattle.std.specs.Prelude.{if◌then◌else◌, slice_index, length, string_bytes};
 ghost use Rattle.bpf_words.specs.Flow.{jump_of, falls_through, slots_of};
 ghost use Rattle.span_context.specs.Context.{SpanBytes};
 ghost use Rattle.bpf_words.specs.Words.{program_of};
@@ -15,21 +16,24 @@ ghost use Rattle.verifier.specs.Decides.{IsAllowed};
 ghost use Rattle.hub_commands.specs.Digits.{AreDigits};
 ghost use Rattle.hub_commands.specs.Hexadecimal.{without_blanks};
 ghost use Rattle.hub_commands.specs.Hints.{digits_hint};
-ghost use Rattle.hub_commands.specs.Explained.{IsExplainedReply, IsExplainReply};
+ghost use Rattle.known_ways.specs.Ways.{KnownBelow};
+ghost use Rattle.program_listing.specs.Listing.{listing_text};
+ghost use Rattle.hub_commands.specs.Explained.{listing_if, refused_text, IsExplainedReply, IsExplainReply};
 
 use crate::answer::Answer;
 use crate::digits::Digits;
 use crate::ended::Ended;
 use crate::failure::Failure;
 use crate::hex_input::HexInput;
-use crate::knowledge::Knowledge;
-use crate::listing::{push_instructions, push_listing, push_slot};
 use crate::output::write_answer;
-use crate::trail::push_trail;
 use abstract_state::refusal::Refusal;
 use bpf_words::instruction::Insn;
 use bpf_words::words::Words;
 use filters::refusal::FilterError;
+use known_ways::knowledge::Knowledge;
+use need_trails::trail::push_trail;
+use program_listing::instructions::push_instructions;
+use program_listing::listing::{push_listing, push_slot};
 use program_reads::lines::push_reads;
 use program_reads::reads::Reads;
 use refusals::reason::Reason;
@@ -111,6 +115,27 @@ fn most_steps(alloc: Global, words: &Words<'_>) -> Result<usize, AllocError>
     Ok(steps[0])
 }
 
+/// Appends the listing of the instructions below a slot, where the whole program is to be listed.
+fn push_listing_if(
+    alloc: Global,
+    text: &mut String,
+    knowledge: &Knowledge<'_>,
+    slot: usize,
+    is_whole: bool,
+) -> Result<(), AllocError>
+    requires known { KnownBelow knowledge.now.profile (program_of knowledge.now.words.now)
+        knowledge.now.states.items }
+    requires within { slot ≤ length knowledge.now.states.items }
+    ensures { OnOk result (string_bytes text.new ≡ string_bytes text.old
+        ++ listing_if is_whole knowledge.now.profile (program_of knowledge.now.words.now) slot) }
+{
+    if is_whole {
+        push_listing(alloc, text, knowledge, slot)
+    } else {
+        Ok(())
+    }
+}
+
 /// Appends the instruction at which a program is refused for what is known before it, that, and where what it wants was
 /// known last; before these what is known before each instruction below, where the whole program is to be listed.
 fn push_known_refused(
@@ -120,16 +145,30 @@ fn push_known_refused(
     slot: usize,
     fault: Refusal,
     is_whole: bool,
-) -> Result<(), AllocError> {
-    if is_whole {
-        push_listing(alloc, text, knowledge, slot)?;
-    }
+) -> Result<(), AllocError>
+    requires known { KnownBelow knowledge.now.profile (program_of knowledge.now.words.now)
+        knowledge.now.states.items }
+    requires within { slot < length knowledge.now.states.items }
+    ensures { OnOk result (string_bytes text.new ≡ string_bytes text.old
+        ++ refused_text is_whole knowledge.now.profile (program_of knowledge.now.words.now)
+        (VerifyError.State slot fault)) }
+{
+    push_listing_if(alloc, text, knowledge, slot, is_whole)?;
     push_slot(alloc, text, knowledge, slot)?;
-    push_trail(alloc, text, knowledge, slot, fault)
+    push_trail(alloc, text, knowledge, slot, fault)?;
+    Ok(())
+}
+
+/// The slot from which on the instructions of a refused program are printed up to one.
+fn first_printed(slot: usize, is_whole: bool) -> usize
+    ensures { result ≡ (if is_whole then 0 else slot) }
+{
+    if is_whole { 0 } else { slot }
 }
 
 /// Appends the instruction at which a program is refused, where the whole program is to be listed behind all others up
 /// to there; and what is known before it where it is refused for that.
+#[tactic(auto, unfolding(crate::specs::Explained::refused_text))]
 pub(crate) fn push_refused(
     alloc: Global,
     text: &mut String,
@@ -137,11 +176,14 @@ pub(crate) fn push_refused(
     profile: Profile,
     error: VerifyError,
     is_whole: bool,
-) -> Result<(), AllocError> {
+) -> Result<(), AllocError>
+    requires { Rejects profile (program_of words.now) error }
+    ensures { OnOk result (string_bytes text.new ≡ string_bytes text.old
+        ++ refused_text is_whole profile (program_of words.now) error) }
+{
     match error {
         VerifyError::Structure { slot, .. } => {
-            let first = if is_whole { 0 } else { slot };
-            push_instructions(text, words, first, slot)
+            push_instructions(text, words, first_printed(slot, is_whole), slot)
         }
         VerifyError::State { slot, fault } => {
             let knowledge = Knowledge::until(alloc, words, profile, slot)?;
@@ -160,15 +202,13 @@ fn refused_answer(
     is_whole: bool,
 ) -> Result<Answer, AllocError>
     requires { Rejects profile (program_of words.now) error }
-    ensures { IfOk result (λ answer. IsExplainedReply profile words.now answer) }
+    ensures { IfOk result (λ answer. IsExplainedReply is_whole profile words.now answer) }
 {
     let Answer { ending, mut text } = Answer::refused(
         alloc,
         &Reason::Unverified(FilterError::Program(error)),
     )?;
-    let mut explanation = String::new(alloc);
-    push_refused(alloc, &mut explanation, words, profile, error, is_whole)?;
-    text.push_str(explanation.as_str())?;
+    push_refused(alloc, &mut text, words, profile, error, is_whole)?;
     Ok(Answer { ending, text })
 }
 
@@ -178,19 +218,32 @@ pub(crate) fn listing(
     words: &Words<'_>,
     profile: Profile,
     is_whole: bool,
-) -> Result<String, AllocError> {
+) -> Result<String, AllocError>
+    requires structured { IsStructured (program_of words.now) }
+    requires allowed { IsAllowed profile (program_of words.now) }
+    ensures { IfOk result (λ text. string_bytes text
+        ≡ listing_if is_whole profile (program_of words.now) (length (program_of words.now))) }
+{
+    if is_whole {
+        whole_listing(alloc, words, profile)
+    } else {
+        Ok(String::new(alloc))
+    }
+}
+
+/// The listing of an accepted program.
+fn whole_listing(alloc: Global, words: &Words<'_>, profile: Profile) -> Result<String, AllocError>
+    requires structured { IsStructured (program_of words.now) }
+    requires allowed { IsAllowed profile (program_of words.now) }
+    ensures { IfOk result (λ text. string_bytes text
+        ≡ listing_text profile (program_of words.now) (length (program_of words.now))) }
+{
+    let Ok(states) = states_before(alloc, words, profile) else {
+        return Err(AllocError);
+    };
+    let knowledge = Knowledge::of(alloc, words, profile, states)?;
     let mut text = String::new(alloc);
-    if !is_whole {
-        return Ok(text);
-    }
-    match states_before(alloc, words, profile) {
-        Ok(states) => {
-            let knowledge = Knowledge::of(alloc, words, profile, states)?;
-            push_listing(alloc, &mut text, &knowledge, words.len())?;
-        }
-        Err(VerifyError::OutOfMemory) => return Err(AllocError),
-        Err(_) => {}
-    }
+    push_listing(alloc, &mut text, &knowledge, words.len())?;
     Ok(text)
 }
 
@@ -207,7 +260,7 @@ fn accepted_answer(
     requires seen { SafeIn profile (program_of words.now) }
     requires allowed { IsAllowed profile (program_of words.now) }
     requires determines { Determines reads.now Two (program_of words.now) }
-    ensures { IfOk result (λ answer. IsExplainedReply profile words.now answer) }
+    ensures { IfOk result (λ answer. IsExplainedReply is_whole profile words.now answer) }
 {
     let slots = words.len();
     let steps = most_steps(alloc, words)?;
@@ -226,7 +279,7 @@ fn explained_answer(
     profile: Profile,
     is_whole: bool,
 ) -> Result<Answer, AllocError>
-    ensures { IfOk result (λ answer. IsExplainedReply profile words.now answer) }
+    ensures { IfOk result (λ answer. IsExplainedReply is_whole profile words.now answer) }
 {
     match verify(alloc, words, profile) {
         Ok(verified) => accepted_answer(alloc, words, profile, &verified.reads(), is_whole),
@@ -242,7 +295,7 @@ pub fn explain_answer(
     digits: &Digits,
 ) -> Result<Answer, AllocError>
     ensures { IfOk result (λ answer. (input : List ℕ) → AreDigits (without_blanks input) digits.now
-        → IsExplainReply profile input answer) }
+        → IsExplainReply is_whole profile input answer) }
 {
     let Some(bytes) = digits.bytes(alloc)? else {
         return Answer::refused(alloc, &Reason::BadHex);
@@ -262,7 +315,7 @@ pub fn explain<R: Read, W: Write>(
     reader: &mut R,
     writer: &mut W,
 ) -> Result<Ended, Failure>
-    ensures answered { IfOk result (λ ended. IsAnswered (IsExplainReply profile) (R.remaining reader.old)
+    ensures answered { IfOk result (λ ended. IsAnswered (IsExplainReply is_whole profile) (R.remaining reader.old)
         (W.contents writer.old) (W.contents writer.new) ended.status) }
     ensures hinted { IfOk result (λ ended. IfSome (R.remaining reader.old) (λ input. ended.hint ≡ digits_hint input)) }
 {

@@ -1,14 +1,14 @@
 //! What the verifier knows before a refused instruction of a program with a jump back, where runs come there first.
-use crate::knowledge::insn_at;
-use crate::refused_for::refused_for;
 use abstract_state::refusal::Refusal;
 use bpf_words::encoding::encode;
 use bpf_words::instruction::{Arithmetic, Insn, Operand, Width};
 use bpf_words::register::Register;
 use bpf_words::words::Words;
 use known_lines::lines::KnownLines;
+use known_ways::place::insn_at;
 use loop_search::states::{SearchError, Visits, find_states};
 use loop_verifier::verify::FINE;
+use refusal_needs::refused_for::refused_for;
 use span_context::profile::Profile;
 use std::alloc::{AllocError, Global};
 use step_lines::lines::push_instruction;

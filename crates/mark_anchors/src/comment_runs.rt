@@ -194,7 +194,7 @@ pub(crate) fn comment_runs(
     ensures holding { IfOk result (λ runs. (es : List Element) → AreCommented es operations.now comments.now
         → AreHolding es operations.now runs.items) }
 {
-    let mut runs = Vec::new(alloc);
+    let mut runs = Vec::with_capacity(alloc, comments.len())?;
     let mut index = 0;
     while index < comments.len() {
         let number = comments[index].number;

@@ -83,14 +83,42 @@ pub(crate) fn segment_cuts(
     Ok(cuts)
 }
 
-/// `count` lists of no run.
-fn empty_lists(alloc: Global, count: usize) -> Result<Vec<Vec<CommentRun>>, AllocError>
-    ensures sized { IfOk result (λ lists. length lists.items ≡ count) }
+/// As many runs as the segment can have that begins at the place: those that have it, and those that begin behind it.
+fn most_runs(begins: &[CommentRun], ends: &[CommentRun], first: usize) -> usize
+    requires { (runs : List CommentRun) × IsTable runs begins.now ends.now }
+{
+    count_with(begins, ends, first).saturating_add(most_changes(begins, ends, first))
+}
+
+/// Adds a list of no run, with room for so many.
+fn push_empty(
+    alloc: Global,
+    lists: &mut Vec<Vec<CommentRun>>,
+    room: usize,
+) -> Result<(), AllocError>
+    ensures sized { OnOk result (length lists.new.items ≡ length lists.old.items + 1) }
+    ensures empty { OnOk result (AreEmpty lists.old.items → AreEmpty lists.new.items) }
+{
+    let list = Vec::with_capacity(alloc, room)?;
+    lists.push(list)?;
+    Ok(())
+}
+
+/// A list of no run for the first segment and for that of each cut, with room for its runs.
+fn empty_lists(
+    alloc: Global,
+    begins: &[CommentRun],
+    ends: &[CommentRun],
+    cuts: &[usize],
+) -> Result<Vec<Vec<CommentRun>>, AllocError>
+    requires { (runs : List CommentRun) × IsTable runs begins.now ends.now }
+    ensures sized { IfOk result (λ lists. length lists.items ≡ length cuts.now + 1) }
     ensures empty { IfOk result (λ lists. AreEmpty lists.items) }
 {
-    let mut lists = Vec::with_capacity(alloc, count)?;
-    for _list in 0..count {
-        lists.push(Vec::new(alloc))?;
+    let mut lists = Vec::with_capacity(alloc, cuts.len() + 1)?;
+    push_empty(alloc, &mut lists, most_runs(begins, ends, 0))?;
+    for cut in cuts {
+        push_empty(alloc, &mut lists, most_runs(begins, ends, *cut))?;
     }
     Ok(lists)
 }
@@ -131,16 +159,19 @@ fn shared(
     Ok(shared)
 }
 
-/// The runs of each segment between these cuts, in their order.
+/// The runs of each segment between these cuts, in their order. `begins` and `ends` have the same runs.
 pub(crate) fn segments(
     alloc: Global,
     runs: &[CommentRun],
+    begins: &[CommentRun],
+    ends: &[CommentRun],
     cuts: &[usize],
 ) -> Result<Vec<ArcSlice<CommentRun, Global>>, AllocError>
-    requires { IsStrictlyIncreasing cuts.now }
+    requires table { IsTable runs.now begins.now ends.now }
+    requires rising { IsStrictlyIncreasing cuts.now }
     ensures { IfOk result (λ segments. AreSegments arc_slice_items runs.now cuts.now segments.items) }
 {
-    let mut segments = empty_lists(alloc, cuts.len() + 1)?;
+    let mut segments = empty_lists(alloc, begins, ends, cuts)?;
     let mut near = 0;
     for run in runs {
         add_run(cuts, &mut segments, run, &mut near)?;

@@ -263,7 +263,7 @@ impl CommentTable {
         let begins = by_begin(Vec::from_slice(alloc, &runs)?);
         let ends = by_end(Vec::from_slice(alloc, &runs)?);
         let cuts = segment_cuts(alloc, &begins, &ends)?;
-        let segments = segments(alloc, &runs, &cuts)?;
+        let segments = segments(alloc, &runs, &begins, &ends, &cuts)?;
         Ok(CommentTable {
             runs,
             begins,

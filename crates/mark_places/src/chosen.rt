@@ -57,15 +57,15 @@ impl MarkPlaces {
             → (range : TheRange) → Contains ranges.now range
             → AreChosen es range.low range.high operations.now chosen.operations) }
     {
-        let mut chosen = ChosenMarks {
-            operations: Vec::new(alloc),
-            marks: Vec::new(alloc),
-        };
         let Some(hull) = hull(ranges) else {
-            return Ok(chosen);
+            return Ok(ChosenMarks {
+                operations: Vec::new(alloc),
+                marks: Vec::new(alloc),
+            });
         };
         let marks = self.touching(alloc, ranges)?;
         let floors = Floors::of(&marks, hull.low, hull.high);
+        let mut chosen = ChosenMarks::with_room(alloc, marks.len())?;
         for mark in &marks {
             if floors.keeps(mark) {
                 chosen.push(mark, &operations[mark.index])?;
@@ -76,6 +76,17 @@ impl MarkPlaces {
 }
 
 impl ChosenMarks {
+    /// None yet, with room for so many.
+    fn with_room(alloc: Global, count: usize) -> Result<ChosenMarks, AllocError>
+        ensures operations { IfOk result (λ chosen. chosen.operations ≡ []) }
+        ensures marks { IfOk result (λ chosen. chosen.marks ≡ []) }
+    {
+        Ok(ChosenMarks {
+            operations: Vec::with_capacity(alloc, count)?,
+            marks: Vec::with_capacity(alloc, count)?,
+        })
+    }
+
     /// Adds a mark, numbered anew.
     fn push(&mut self, mark: &PlacedMark, operation: &Op) -> Result<(), AllocError>
         ensures operations { OnOk result (self.new.operations ≡ self.old.operations ++ operation.now ∷ []) }

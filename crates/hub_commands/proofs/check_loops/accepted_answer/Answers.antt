@@ -1,5 +1,4 @@
-use Rattle.std.proofs.Common.{◌≡◌, ℕ, ◌∙◌, ap, sym, subst, string_bytes}
-use Rattle.bpf_words.specs.Words.{program_of}
+use Rattle.std.proofs.Common.{◌≡◌, ℕ, ◌∙◌, ap, subst, string_bytes}
 use Rattle.semantics.specs.Step.{Program}
 use Rattle.loop_check.specs.Labels.{bound_of}
 use Rattle.hub_commands.specs.Answers.{done}

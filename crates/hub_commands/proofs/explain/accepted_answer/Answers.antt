@@ -1,10 +1,10 @@
-use Rattle.std.proofs.Common.{◌≡◌, ℕ, List, ◌++◌, ◌∙◌, ap, codes, length, refl, string_bytes}
+use Rattle.std.proofs.Common.{◌≡◌, ℕ, List, ◌++◌, ◌∙◌, ap, codes, length, string_bytes}
 use Rattle.std.specs.Fmt.{decimal}
 use Rattle.bpf_words.specs.Words.{program_of}
 use Rattle.semantics.proofs.More.{seen_safe}
 use Rattle.program_reads.specs.Lines.{read_lines}
 use Rattle.hub_commands.specs.Answers.{line, done}
-use Rattle.hub_commands.specs.Explained.{accepted}
+use Rattle.hub_commands.specs.Explained.{accepted, listing_if}
 use Rattle.hub_commands.proofs.Explaining.{joined}
 use Rattle.hub_commands.proofs.explain.accepted_answer.Goals as goal
 
@@ -16,6 +16,7 @@ returns c =
     let slots = decimal c.len-slots.result in
     let steps = decimal c.in_ok-steps.steps in
     let lines = read_lines c.args.profile c.args.reads.now in
+    let listed : c.as_str.result.now ≡ listing_if c.args.is_whole c.args.profile (program_of c.args.words.now) (length (program_of c.args.words.now)) = c.as_str.ensures.value ∙ c.in_ok-listing.ensures in
     let more = c.as_str.result.now in
     let text : List ℕ = (line (codes "steps <= " ++ steps) ++ lines) ++ more in
     let made : string_bytes c.in_ok-text.text ≡ codes "accepted " ++ (slots ++ (codes "\nsteps <= " ++ (steps ++ codes "\n"))) = c.in_ok-text.ensures.ok in
@@ -29,7 +30,6 @@ returns c =
       most = c.in_ok-steps.ensures;
       reads = c.args.reads.now;
       determines = c.requires.determines;
-      more = more;
-      is = refl;
+      is = ap (λ (more : List ℕ). (line (codes "steps <= " ++ steps) ++ lines) ++ more) listed;
     })
     (c.done.ensures ∙ ap done (whole ∙ ap (λ (n : ℕ). line (codes "accepted " ++ decimal n) ++ text) counted))

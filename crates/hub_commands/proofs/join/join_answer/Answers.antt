@@ -1,10 +1,8 @@
-use Rattle.std.proofs.Common.{◌≡◌, ℕ, List, [], subst, sym, ◌∙◌}
-use Rattle.change_ops.specs.Changes.{Change}
+use Rattle.std.proofs.Common.{ℕ, List, ◌∙◌}
 use Rattle.change_ops.specs.declared.size.Size.{Size}
 use Rattle.hub_commands.specs.Answers.{Answer}
 use Rattle.hub_commands.specs.JoinReply.{IsJoinReply}
 use Rattle.hub_commands.specs.KeptInput.{IsKeptWhole}
-use Rattle.hub_commands.specs.SpansReply.{Begins}
 use Rattle.hub_commands.proofs.Replies.{mapped}
 use Rattle.hub_commands.proofs.KeptInputs.{replied_none, replied_fault}
 use Rattle.hub_commands.proofs.join.join_answer.Goals as goal

@@ -1,4 +1,4 @@
-use Rattle.std.proofs.Common.{◌≡◌, IfOk, sym, subst}
+use Rattle.std.proofs.Common.{IfOk, sym, subst}
 use Rattle.hub_requests.specs.declared.Shown.{Shown}
 use Rattle.hub_commands.specs.Answers.{Answer}
 use Rattle.hub_commands.specs.Programs.{IsShownReply}

@@ -1,20 +1,21 @@
-use Rattle.std.proofs.Common.{◌≡◌, ◌∙◌, ◌+◌, [], ◌∷◌, ◌++◌, Some, length, ap, subst, ⊎_elim}
+use Rattle.std.proofs.Common.{◌≡◌, ◌∙◌, ◌+◌, Some, length, ap, subst}
 use Rattle.std.specs.List.{slice_get}
-use Rattle.std.proofs.lemmas.List.{length_push}
-use Rattle.mark_anchors.proofs.Lists.{pushed_cases}
+use Rattle.std.proofs.lemmas.Option.{none-some}
 use Rattle.mark_anchors.proofs.comment_segments.empty_lists.Goals as goal
 
-pub loop-list-preserved : goal.loop-list-preserved
-loop-list-preserved c =
-    let lists = c.loop-list.lists.items in
-    let sized : length lists ≡ c.loop-list._list = c.loop-list.invariant.sized in
-    let items : c.push.new.self.items ≡ lists ++ c.new.result ∷ [] = c.in_ok-push.ensures.items in
+pub loop-cut-init : goal.loop-cut-init
+loop-cut-init c =
+    let none = c.in_ok-lists.ensures.items in
     record {
-      sized = ap length items ∙ length_push lists c.new.result ∙ ap (λ n. n + 1) sized;
+      sized = c.in_ok-push_empty.ensures.sized ∙ ap (λ ls. length ls + 1) none;
       empty =
-          λ i l at.
-          ⊎_elim
-          (λ (old : slice_get lists i ≡ Some l). c.loop-list.invariant.empty i l old)
-          (λ (new : c.new.result ≡ l). subst (λ v. v.items ≡ []) new c.new.ensures.items)
-          (pushed_cases lists c.new.result i l (subst (λ ls. slice_get ls i ≡ Some l) items at));
+          c.in_ok-push_empty.ensures.empty
+          (λ i l at. absurd (none-some l (subst (λ ls. slice_get ls i ≡ Some l) none at)));
+    }
+
+pub loop-cut-preserved : goal.loop-cut-preserved
+loop-cut-preserved c =
+    record {
+      sized = c.in_ok-push_empty-2.ensures.sized ∙ ap (λ n. n + 1) c.loop-cut.invariant.sized;
+      empty = c.in_ok-push_empty-2.ensures.empty c.loop-cut.invariant.empty;
     }

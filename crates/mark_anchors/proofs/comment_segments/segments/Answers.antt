@@ -9,7 +9,7 @@ use Rattle.mark_anchors.proofs.Segments.{segments_none, first_more}
 use Rattle.mark_anchors.proofs.comment_segments.segments.Goals as goal
 
 pub loop-run-init : goal.loop-run-init
-loop-run-init c = segments_none c.args.cuts.now c.in_ok-segments.segments.items c.requires c.in_ok-segments.ensures.sized c.in_ok-segments.ensures.empty
+loop-run-init c = segments_none c.args.cuts.now c.in_ok-segments.segments.items c.requires.rising c.in_ok-segments.ensures.sized c.in_ok-segments.ensures.empty
 
 pub loop-run-preserved : goal.loop-run-preserved
 loop-run-preserved c =

@@ -5,7 +5,6 @@ use Rattle.change_ops.specs.contracts.value.ValuePartialEq.TheImpl.{ghosts}
 use Rattle.change_ops.specs.declared.value.Value.{Value}
 use Rattle.change_ops.specs.declared.value.Value.TheVariants.{Nothing, Link, Color, LineKind}
 use Rattle.mark_anchors.proofs.Formats.{lists_Decides}
-use Rattle.mark_anchors.proofs.decided.is_same_value.Goals as goal
 
 -- values of two types differ
 same : (x y : Value) → Decides (ghosts.eq x y) (x ≡ y)
