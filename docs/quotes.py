@@ -15,7 +15,7 @@ def contract(lines, call):
     name = re.compile(r"\bfn " + call.split("::")[-1] + r"\b")
     for start, line in enumerate(lines):
         if name.search(line):
-            end = next(at for at in range(start, len(lines)) if lines[at] == "{" or lines[at].endswith(";"))
+            end = next(at for at in range(start, len(lines)) if lines[at] in ("{", "{}") or lines[at].endswith(";"))
             return lines[start : end + 1]
     return []
 

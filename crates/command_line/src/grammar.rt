@@ -164,6 +164,18 @@ Example, of a program whose second instruction stands last:
     b700000001000000
     9500000000000000";
 
+const AFTER_TEST: &str =
+    "The exit status is 0 if all cases pass; 1 if one doesn't, or a line is no case, with 76,
+or the program is refused, with 1 to 27, 63, 74 or 75, or there is no memory, with
+45; 2 if the command line is wrong; 3 if a read or a write fails.
+
+Example, of a program whose verdict is the length of the text:
+
+    $ printf '\"why?\" -> 4\\n\"\" strong -> hit\\n' |
+    > hub test 61101000000000009500000000000000
+    case 2 wanted hit got 0
+    1 passed, 1 failed";
+
 /// What `check --explain` can be asked for; the first without a word.
 static EXPLANATIONS: [&str; 2] = ["slot", "all"];
 
@@ -289,6 +301,19 @@ the program, a line of 16 hexadecimal digits for each slot.",
         .after_help(AFTER_ASM)
 }
 
+/// By which rules a program is accepted.
+fn context<'a>(alloc: Global) -> Arg<'a> {
+    Arg::new(alloc, "context")
+        .long("context")
+        .value_name("NUMBER")
+        .action(ArgAction::Set)
+        .value_parser(value_parser!(u32).range(1..=4))
+        .default_value("1")
+        .help(
+            "1: the program may read the first 56 bytes of the context, and the text; 2: also the link; 3: the same as 2, and more programs are accepted; 4: the same as 3, and programs may loop",
+        )
+}
+
 fn check<'a>(alloc: Global) -> Result<Command<'a>, AllocError> {
     let explain = Arg::new(alloc, "explain")
         .long("explain")
@@ -300,15 +325,6 @@ fn check<'a>(alloc: Global) -> Result<Command<'a>, AllocError> {
         .value_parser(EXPLANATIONS.as_slice())
         .help(
             "Also prints what the verifier knows of the program (docs/PROGRAMS.md), with =all before each slot",
-        );
-    let context = Arg::new(alloc, "context")
-        .long("context")
-        .value_name("NUMBER")
-        .action(ArgAction::Set)
-        .value_parser(value_parser!(u32).range(1..=4))
-        .default_value("1")
-        .help(
-            "1: the program may read the first 56 bytes of the context, and the text; 2: also the link; 3: the same as 2, and more programs are accepted; 4: the same as 3, and programs may loop",
         );
     Command::new(alloc, "check")
         .about("Says whether a program is accepted")
@@ -331,7 +347,7 @@ With --explain=all the same is printed of each slot: behind the other lines of a
 accepted program, and up to the slot at which one is refused.",
         )
         .after_help(AFTER_CHECK)
-        .arg(context)?
+        .arg(context(alloc))?
         .arg(explain)
 }
 
@@ -399,6 +415,37 @@ for each slot: the same slots where no jump leads back. Of a program with a loop
 `refused 10 BackwardJump` is printed, with the slot of a jump back in it.",
         )
         .after_help(AFTER_STRAIGHTEN)
+}
+
+fn test<'a>(alloc: Global) -> Result<Command<'a>, AllocError> {
+    let program = Arg::new(alloc, "HEX").required(true).help(
+        "The program's bytes, as pairs of hexadecimal digits of either case",
+    );
+    let junit = Arg::new(alloc, "junit")
+        .long("junit")
+        .action(ArgAction::SetTrue)
+        .help("Prints the XML of JUnit, which has all cases");
+    Command::new(alloc, "test")
+        .about("Tests a program on many spans")
+        .long_about(
+            "Tests a program on many spans. First it has to be accepted, as by `hub check`.
+Standard input is the cases, a line each; empty lines and lines that begin with #
+are left out:
+
+    \"an URGENT note\" -> 4
+    \"see this\" strong link=https://example.org/ comments=2 -> hit
+
+A case is a span's text, words for the rest of the span, an arrow, and the wanted
+verdict: a number, or `hit` for any but 0. In the text \\n, \\t, \\\", \\\\ and \\xNN are
+escapes. The words are strong, em, code, link=TARGET, color=RRGGBB, comments=N,
+index=N, count=N and version=N; a space stands between any two. What isn't said is
+as `hub run` has it without options. Printed is a line for each case with another
+verdict, and then how many passed.",
+        )
+        .after_help(AFTER_TEST)
+        .arg(program)?
+        .arg(context(alloc))?
+        .arg(junit)
 }
 
 /// How many threads filter.
@@ -656,5 +703,6 @@ tells (as `hub spans --help`), and prints on standard output.",
         .subcommand(run(alloc)?)?
         .subcommand(serve(alloc)?)?
         .subcommand(spans(alloc)?)?
-        .subcommand(straighten(alloc))
+        .subcommand(straighten(alloc))?
+        .subcommand(test(alloc)?)
 }

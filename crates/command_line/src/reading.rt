@@ -3,6 +3,7 @@ use change_ops::attribute::Link;
 use change_ops::size::Size;
 use clap::error::ErrorKind;
 use clap::{ArgMatches, Error};
+use filter_cases::report::ReportForm;
 use filters::rules::RuleSet;
 use hub_requests::limits::{SessionLimits, SessionOptions};
 use hub_requests::serving::{Doors, Service, StoreFile, Terms, WebDoor};
@@ -131,6 +132,15 @@ fn shown(matches: &ArgMatches<'_>) -> Shown {
         Shown::Steps
     } else {
         Shown::Outcome
+    }
+}
+
+/// In which form it is told how cases end.
+fn report_form(matches: &ArgMatches<'_>) -> ReportForm {
+    if matches.get_flag("junit") {
+        ReportForm::Junit
+    } else {
+        ReportForm::Lines
     }
 }
 
@@ -355,6 +365,11 @@ fn request_of(alloc: Global, matches: &ArgMatches<'_>) -> Result<Request, Unread
         Some(("serve", serve)) => Some(serving(alloc, serve)?),
         Some(("spans", spans)) => Some(Request::Perform(Command::Spans { size: size(spans) })),
         Some(("straighten", _)) => Some(Request::Perform(Command::Straighten)),
+        Some(("test", test)) => Some(Request::Perform(Command::Test {
+            rules: rules(test),
+            form: report_form(test),
+            digits: String::from_str(alloc, test.get_str("HEX").unwrap_or(""))?,
+        })),
         _ => None,
     };
     // The parser asks for a subcommand and for what it requires, and knows no other.

@@ -1,4 +1,3 @@
-pub mod Indexes
 pub mod Worked
 pub mod Totals
 pub mod Turning

@@ -8,7 +8,7 @@ ghost use Rattle.core_history.specs.Hubs.{HubEntry};
 ghost use Rattle.ingest_workers.specs.Calls.{IsCall, Makes};
 ghost use Rattle.filter_workers.specs.Turns.{IsEnd, Serves, Turns, Works, Worked, Totals, Helps, CatchesUp, batches_of};
 
-use crate::filter::{is_short, verdicts};
+use crate::filter::is_short;
 use crate::gate::Gate;
 use call_history::knowledge::HistoryNaming;
 use core_history::share::Share;
@@ -21,6 +21,7 @@ use std::alloc::{AllocError, Global};
 use std::sync::Wait;
 use std::sync::ledger::Ledger;
 use std::thread::{Threads, for_each_mut};
+use stream_readers::verdicts::verdicts;
 use version_history::published::{Naming, Published};
 
 /// What became of a job's batch.

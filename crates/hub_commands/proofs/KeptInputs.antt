@@ -1,6 +1,6 @@
 -- What is kept of an input whose changes are joined goes on from piece to piece, and what is answered to it.
-use Rattle.std.proofs.Common.{◌≡◌, ◌≢◌, ℕ, ◌+◌, ◌<◌, List, [], ◌∷◌, ◌++◌, length, Option, Some, None, refl, sym, ap, subst, ◌∙◌, append_assoc, length-append, arith}
-use Rattle.std.specs.Prelude.{Result, Ok, Err, All, IfSome, IfOk, OnOk}
+use Rattle.std.proofs.Common.{◌≡◌, ◌≢◌, ℕ, ◌<◌, List, [], ◌∷◌, ◌++◌, length, Option, Some, None, sym, ap, subst, ◌∙◌, append_assoc, length-append, arith}
+use Rattle.std.specs.Prelude.{Result, Ok, Err, All, IfSome, OnOk}
 use Rattle.std.specs.List.{flat_map}
 use Rattle.std.specs.Str.{IsUtf8}
 use Rattle.std.proofs.lemmas.List.{append-nil}
@@ -12,7 +12,6 @@ use Rattle.change_join.specs.Joined.{joined}
 use Rattle.hub_commands.specs.Answers.{Answer, IsWritten, IsAnswered, done}
 use Rattle.hub_commands.specs.Hints.{text_hint}
 use Rattle.hub_commands.specs.declared.hint.Hint.{Hint}
-use Rattle.hub_commands.specs.declared.changes_input.ChangesInput.{ChangesInput}
 use Rattle.hub_commands.specs.declared.changes_input.Fault.{Fault}
 use Rattle.hub_commands.specs.declared.changes_input.Fault.TheVariants.{NotText, Change as BadChange}
 use Rattle.hub_commands.specs.declared.join.KeptInput.{KeptInput}

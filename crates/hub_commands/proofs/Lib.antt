@@ -7,3 +7,4 @@ pub mod Appending
 pub mod KeptInputs
 pub mod ReadingChanges
 pub mod Runs
+pub mod Trying

@@ -37,7 +37,7 @@ use Rattle.hub_commands.specs.declared.hint.Hint.{Hint}
 use Rattle.hub_commands.specs.Hexadecimal.{slot_lines, without_blanks}
 use Rattle.hub_commands.specs.Hints.{digits_hint}
 use Rattle.hub_commands.specs.Reasons.{refusal}
-use Rattle.hub_commands.specs.Programs.{IsAsmReply, no_source, assembled, IsProgramReply, no_hex, no_program, program, facts_of, link_of, bytes_of, steps_of, run_outcome, run_steps_text, outcome_reply, IsSpanReply, no_text, ran, IsTracedReply, not_run, traced, IsShownReply}
+use Rattle.hub_commands.specs.Programs.{IsAsmReply, no_source, assembled, IsProgramReply, no_hex, no_program, program, facts_of, link_of, bytes_of, steps_of, run_steps_text, outcome_reply, IsSpanReply, no_text, ran, IsTracedReply, not_run, traced, IsShownReply}
 
 -- what holds of an answer, by what it was said to be
 pub mapped : {A E : Type 0} (P Q : A → Type 0) (result : Result A E) → IfOk result P → ((x : A) → P x → Q x) → IfOk result Q

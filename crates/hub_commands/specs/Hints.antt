@@ -4,7 +4,7 @@ use Rattle.std.specs.Prelude.{List, [], ◌∷◌, length, string_bytes, Option,
 use Rattle.std.specs.List.{list_all, list_any, starts_with}
 use Rattle.hex.specs.Hex.{is_hex_digit}
 use Rattle.hub_requests.specs.declared.Command.{Command}
-use Rattle.hub_requests.specs.declared.Command.TheVariants.{Asm, Check, Dis, Join, Run, Spans, Straighten}
+use Rattle.hub_requests.specs.declared.Command.TheVariants.{Asm, Check, Dis, Join, Run, Spans, Straighten, Test}
 use Rattle.hub_commands.specs.declared.hint.Hint.{Hint}
 use Rattle.hub_commands.specs.declared.hint.Hint.TheVariants.{ByteOrderMark, Binary, OtherSigns, HalfByte, Nul}
 use Rattle.hub_commands.specs.Hexadecimal.{is_blank, without_blanks}
@@ -46,3 +46,4 @@ hint_to (Join size) = text_hint
 hint_to (Run shown digits options) = λ input. pairs_hint (string_bytes digits)
 hint_to (Spans size) = text_hint
 hint_to Straighten = digits_hint
+hint_to (Test rules form digits) = λ input. pairs_hint (string_bytes digits)

@@ -12,6 +12,7 @@ pub mod ChangesInput
 pub mod JoinReply
 pub mod KeptInput
 pub mod Straightened
+pub mod Tested
 pub mod Requests
 pub mod Explained
 pub mod Loops

@@ -2,7 +2,7 @@
 use Rattle.std.specs.Prelude.{ℕ, true, false, List, string_bytes}
 use Rattle.filters.specs.declared.rules.RuleSet.TheVariants.{Straight, Looping}
 use Rattle.hub_requests.specs.declared.Command.{Command}
-use Rattle.hub_requests.specs.declared.Command.TheVariants.{Asm, Check, Dis, Join, Run, Spans, Straighten}
+use Rattle.hub_requests.specs.declared.Command.TheVariants.{Asm, Check, Dis, Join, Run, Spans, Straighten, Test}
 use Rattle.hub_requests.specs.declared.Detail.TheVariants.{Verdict, Reason, Listing}
 use Rattle.hub_commands.specs.Answers.{Answer}
 use Rattle.hub_commands.specs.Explained.{IsExplainReply}
@@ -11,6 +11,7 @@ use Rattle.hub_commands.specs.JoinReply.{IsJoinReply}
 use Rattle.hub_commands.specs.Programs.{IsAsmReply, IsCheckReply, IsDisReply, IsRunReply}
 use Rattle.hub_commands.specs.SpansReply.{IsSpansReply}
 use Rattle.hub_commands.specs.Straightened.{IsStraightenReply}
+use Rattle.hub_commands.specs.Tested.{IsTestReply}
 
 -- the reply that the command gives to an input
 abbrev pub IsReplyTo : Command → List ℕ → Answer → Type 0
@@ -24,3 +25,4 @@ IsReplyTo (Join size) = IsJoinReply size
 IsReplyTo (Run shown digits options) = IsRunReply shown (string_bytes digits) options
 IsReplyTo (Spans size) = IsSpansReply size
 IsReplyTo Straighten = IsStraightenReply
+IsReplyTo (Test rules form digits) = IsTestReply rules form (string_bytes digits)

@@ -11,6 +11,7 @@ mod dis;
 pub mod ended;
 mod explain;
 pub mod failure;
+mod filter_test;
 mod first_turn;
 mod hex_input;
 mod hexadecimal;

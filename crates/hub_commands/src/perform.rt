@@ -10,6 +10,7 @@ use crate::dis::dis;
 use crate::ended::Ended;
 use crate::explain::explain;
 use crate::failure::Failure;
+use crate::filter_test::test;
 use crate::hint::pairs_hint;
 use crate::join::join;
 use crate::run::run;
@@ -55,5 +56,14 @@ pub fn perform<R: Read, W: Write>(
         }),
         Command::Spans { size } => spans(alloc, *size, reader, writer),
         Command::Straighten => straighten(alloc, reader, writer),
+        Command::Test {
+            rules,
+            form,
+            digits,
+        } => Ok(Ended {
+            status: test(alloc, digits.as_bytes(), *rules, *form, reader, writer)?,
+            hint: pairs_hint(digits.as_bytes()),
+            word: None,
+        }),
     }
 }

@@ -13,6 +13,7 @@ use crate::limits::SessionOptions;
 use crate::serving::{Doors, StoreFile, Terms};
 use change_ops::attribute::Link;
 use change_ops::size::Size;
+use filter_cases::report::ReportForm;
 use filters::rules::RuleSet;
 use std::marker::Model;
 
@@ -89,6 +90,12 @@ pub enum Command {
     },
     /// To print a program of the same meaning as the one that it is in hexadecimal, without jumps back.
     Straighten,
+    /// To test a program, in hexadecimal, that these rules accept on the cases that it has.
+    Test {
+        rules: RuleSet,
+        form: ReportForm,
+        digits: String,
+    },
 }
 
 /// The most threads that a session's filtering may have.

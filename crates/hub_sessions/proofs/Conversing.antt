@@ -15,7 +15,7 @@ use Rattle.session_lines.specs.declared.reply.Reply.TheVariants as reply
 use Rattle.session_lines.specs.declared.request.Next.TheVariants as next
 use Rattle.session_lines.specs.declared.request.SessionRequest.{SessionRequest}
 use Rattle.session_lines.specs.declared.request.SessionRequest.TheVariants as asked
-use Rattle.session_subscribers.specs.Holding.{Held, PullsShort, HelpsOthers}
+use Rattle.session_subscribers.specs.Holding.{Held, PullsShort}
 use Rattle.session_reads.specs.Found.{found_text}
 use Rattle.session_reads.specs.declared.found.Found.{Found}
 use Rattle.change_ops.specs.declared.size.Size.{Size}
@@ -25,7 +25,7 @@ use Rattle.hub_core.specs.declared.run.Reply.TheVariants as told
 use Rattle.core_history.specs.declared.entry.Call.TheVariants as call
 use Rattle.core_history.specs.Hubs.{Seen}
 use Rattle.ingest_workers.specs.Calls.{IsCall}
-use Rattle.hub_sessions.specs.Sessions.{SessionState, session_state, Exchange, IsExchange, Answers, AreApart, after, Follow, Converses, found_in, read_in, TakesTurn, BreaksTurn, IsUnwritten, IsUnread, FallsShort, short_text, Ends, EndsAfter, EndsShort, BreaksAfter, ClosesAll, printed, reply_line}
+use Rattle.hub_sessions.specs.Sessions.{SessionState, session_state, Exchange, IsExchange, Answers, AreApart, Follow, Converses, found_in, read_in, TakesTurn, BreaksTurn, IsUnwritten, IsUnread, FallsShort, short_text, Ends, EndsAfter, EndsShort, BreaksAfter, ClosesAll, printed, reply_line}
 use Rattle.hub_sessions.specs.declared.conversation.SessionFault.{SessionFault}
 use Rattle.hub_sessions.specs.declared.conversation.SessionFault.TheVariants as fault
 use Rattle.hub_sessions.specs.declared.conversation.Turn.{Turn}
@@ -41,31 +41,31 @@ printed_more : {size : Size} {kept : Kept} (one : List (Exchange size kept)) (e 
 printed_more one e = printed_both one (e ∷ []) ∙ ap (λ l. flat_map printed one ++ l) (append-nil (printed e))
 
 follow_more : {size : Size} {kept : Kept} (s : SessionState size kept) (left : Option (List ℕ)) (one : List (Exchange size kept)) (s' : SessionState size kept) (left' : Option (List ℕ)) (e : Exchange size kept)
-    → Follow s left one s' left' → IsExchange s' left' e → Follow s left (one ++ e ∷ []) (after e) e.left
+    → Follow s left one s' left' → IsExchange s' left' e → Follow s left (one ++ e ∷ []) e.state e.left
 follow_more s left [] s' left' e p q = (subst (λ z. IsExchange z left e) p.0 (subst (λ z. IsExchange s' z e) p.1 q), (refl, refl))
-follow_more s left (x ∷ one) s' left' e p q = (p.0, follow_more (after x) x.left one s' left' e p.1 q)
+follow_more s left (x ∷ one) s' left' e p q = (p.0, follow_more x.state x.left one s' left' e p.1 q)
 
 pub begun : {size : Size} {kept : Kept} (s : SessionState size kept) (left w : Option (List ℕ)) → Converses s left w s left w
 begun s left w = record { exchanges = []; follow = (refl, refl); written = Appends-nil w }
 
-turned_more : {size : Size} {kept : Kept} (s : SessionState size kept) (left old : Option (List ℕ)) (s' : SessionState size kept) (left' mid : Option (List ℕ)) (found : Found) (text : List ℕ) (s'' : SessionState size kept) (left'' new : Option (List ℕ)) (helped : Seen)
-    → Converses s left old s' left' mid → TakesTurn (More found) s' left' text s'' left'' → Appends mid new text → HelpsOthers size s''.share helped → Converses s left old (record s'' { share = helped }) left'' new
-turned_more {size} {kept} s left old s' left' mid found text s'' left'' new helped c t a h =
-    let e : Exchange size kept = record { came = t.0; items = t.1; answer = t.2; left = left''; state = s''; helped = helped } in
+turned_more : {size : Size} {kept : Kept} (s : SessionState size kept) (left old : Option (List ℕ)) (s' : SessionState size kept) (left' mid : Option (List ℕ)) (found : Found) (text : List ℕ) (s'' : SessionState size kept) (left'' new : Option (List ℕ))
+    → Converses s left old s' left' mid → TakesTurn (More found) s' left' text s'' left'' → Appends mid new text → Converses s left old s'' left'' new
+turned_more {size} {kept} s left old s' left' mid found text s'' left'' new c t a =
+    let e : Exchange size kept = record { came = t.0; items = t.1; answer = t.2; left = left''; state = s'' } in
     record {
       exchanges = c.exchanges ++ e ∷ [];
-      follow = follow_more s left c.exchanges s' left' e c.follow (record { answered = t.3; helps = h });
+      follow = follow_more s left c.exchanges s' left' e c.follow t.3;
       written = subst (Appends old new) (sym (printed_more c.exchanges e)) (Appends-trans old mid new _ _ c.written (subst (Appends mid new) t.4 a));
     }
 
 -- a turn of which it is known that it was not the last: what it found was written, and then its lines
-pub turned : {size : Size} {kept : Kept} (s : SessionState size kept) (left old : Option (List ℕ)) (s' : SessionState size kept) (left' mid : Option (List ℕ)) (r : Result Turn TurnFault) (found : Found) (lines : List ℕ) (s'' : SessionState size kept) (left'' new : Option (List ℕ)) (helped : Seen)
+pub turned : {size : Size} {kept : Kept} (s : SessionState size kept) (left old : Option (List ℕ)) (s' : SessionState size kept) (left' mid : Option (List ℕ)) (r : Result Turn TurnFault) (found : Found) (lines : List ℕ) (s'' : SessionState size kept) (left'' new : Option (List ℕ))
     → Converses s left old s' left' mid → r ≡ Ok (More found) → IfOk r (λ turn. TakesTurn turn s' left' (found_in turn ++ lines) s'' left'') → Appends mid new (read_in r ++ lines)
-    → HelpsOthers size s''.share helped → Converses s left old (record s'' { share = helped }) left'' new
-turned s left old s' left' mid r found lines s'' left'' new helped c is t a h =
-    turned_more s left old s' left' mid found (found_text found ++ lines) s'' left'' new helped c
+    → Converses s left old s'' left'' new
+turned s left old s' left' mid r found lines s'' left'' new c is t a =
+    turned_more s left old s' left' mid found (found_text found ++ lines) s'' left'' new c
     (subst (λ z. IfOk z (λ turn. TakesTurn turn s' left' (found_in turn ++ lines) s'' left'')) is t)
-    (subst (λ z. Appends mid new (read_in z ++ lines)) is a) h
+    (subst (λ z. Appends mid new (read_in z ++ lines)) is a)
 
 -- a turn of which it is known that it was the last
 pub ended : {size : Size} {kept : Kept} (s : SessionState size kept) (left old : Option (List ℕ)) (s' : SessionState size kept) (left' mid : Option (List ℕ)) (r : Result Turn TurnFault) (text : List ℕ) (s'' : SessionState size kept) (left'' new : Option (List ℕ))

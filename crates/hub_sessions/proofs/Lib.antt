@@ -2,5 +2,4 @@ pub mod Admitting
 pub mod Conversing
 pub mod Keeping
 pub mod Making
-pub mod Owning
 pub mod Replayed

@@ -25,16 +25,16 @@ use Rattle.session_lines.specs.declared.request.Next.{Next}
 use Rattle.session_lines.specs.declared.request.Next.TheVariants as next
 use Rattle.session_lines.specs.declared.request.SessionRequest.{SessionRequest}
 use Rattle.session_lines.specs.declared.request.SessionRequest.TheVariants as asked
-use Rattle.session_subscribers.specs.Holding.{Held, IsNotSubscribed, IsRefusedFor, Adds, Closes, PullsAny, HelpsOthers}
+use Rattle.session_subscribers.specs.Holding.{Held, IsNotSubscribed, IsRefusedFor, Adds, Closes, PullsAny}
 use Rattle.session_reads.specs.Reads.{Shows, Lists, Counts, Tells, Reads}
 use Rattle.core_history.specs.Shares.{accepted_count}
 use Rattle.core_history.specs.Hubs.{HubEntry, Seen}
 use Rattle.ingest_workers.specs.Calls.{IsCall, IsLook, Makes}
 use Rattle.ingest_workers.specs.Holdings.{Ingests}
-use Rattle.ingest_workers.proofs.Calls.{makes_same, makes_call, makes_look, makes_then}
+use Rattle.ingest_workers.proofs.Calls.{makes_same, makes_call, makes_look, makes_then, makes_sight}
 use Rattle.hub_restoring.specs.Restoring.{AreIngested}
 use Rattle.hub_sessions.specs.Submitting.{IsInReach, LeapsAt, IsNotAdmitted, IsNotAccepted, Submits}
-use Rattle.hub_sessions.specs.Sessions.{SessionState, Exchange, Answers, Meets, IsAnswered, after, Follow, FallsShort, IsUnread, Ends, ClosesAll, IsSession}
+use Rattle.hub_sessions.specs.Sessions.{SessionState, Exchange, Answers, Meets, IsAnswered, Follow, FallsShort, IsUnread, Ends, ClosesAll, IsSession}
 use Rattle.hub_sessions.specs.declared.conversation.SessionFault.{SessionFault}
 use Rattle.hub_sessions.specs.declared.conversation.SessionFault.TheVariants as fault
 
@@ -96,7 +96,7 @@ module _ (size : Size) where
 
   -- subscribers
   refused_for : (v w : Seen) (bytes : List ℕ) (first : Option ℕ) (error : _) → IsRefusedFor size v w bytes first error → MakesSome size v w
-  refused_for v w bytes first error is = (_, is.3)
+  refused_for v w bytes first error is = (_, is.3.calls)
 
   not_subscribed : (v w : Seen) (rule_set : RuleSet) (capacity : ℕ) (bytes : List ℕ) (first : Option ℕ) (why : Reason) → IsNotSubscribed size v w rule_set capacity bytes first why → MakesSome size v w
   not_subscribed v w rule_set capacity bytes first (reason.Words error) is = none_made v w is.1
@@ -113,7 +113,7 @@ module _ (size : Size) where
 
   adds_make : (v w : Seen) (rule_set : RuleSet) (capacity : ℕ) (bytes : List ℕ) (first : Option ℕ) (left : SessionLimits) (held : List Held) (answer : Reply) (left' : SessionLimits) (held' : List Held)
       → Adds size v w rule_set capacity bytes first left held answer left' held' → MakesSome size v w
-  adds_make v w rule_set capacity bytes first left held (reply.Subscribed id) left' held' is = (_, is.2.calls)
+  adds_make v w rule_set capacity bytes first left held (reply.Subscribed id) left' held' is = (_, is.5.calls)
   adds_make v w rule_set capacity bytes first left held (reply.Refused why) left' held' is = elim is.2 [ inl not ↦ not_subscribed v w rule_set capacity bytes first why not | inr past ↦ none_made v w past.3 ]
   adds_make v w rule_set capacity bytes first left held _ left' held' is = absurd is
 
@@ -123,10 +123,7 @@ module _ (size : Size) where
   closes_make v w held id _ held' is = absurd is
 
   pulls_make : (v w : Seen) (reads : Bool) (id count : ℕ) (held held' : List Held) (out out' : List ℕ) (answer : Reply) → PullsAny size v w reads id count held held' out out' answer → MakesSome size v w
-  pulls_make v w reads id count held held' out out' answer is = elim is [ inl pulled ↦ (pulled.pulls.calls.calls, pulled.pulls.calls.makes) | inr none ↦ none_made v w none.still ]
-
-  pub helps_make : (v w : Seen) → HelpsOthers size v w → MakesSome size v w
-  helps_make v w is = elim is [ inl same ↦ none_made v w same | inr helped ↦ (helped.1, helped.2) ]
+  pulls_make v w reads id count held held' out out' answer is = elim is [ inl pulled ↦ ([], makes_sight size v w pulled.pulls.state pulled.pulls.sight) | inr none ↦ none_made v w none.still ]
 
   closes_all : (held : List Held) (v w : Seen) → ClosesAll size v w held → MakesSome size v w
   closes_all [] v w is = none_made v w is
@@ -187,9 +184,7 @@ module _ (size : Size) (kept : Kept) where
   follow_make : (exchanges : List (Exchange size kept)) (s : SessionState size kept) (left : Option (List ℕ)) (s' : SessionState size kept) (left' : Option (List ℕ)) → Follow s left exchanges s' left' → MakesSome size s.share s'.share
   follow_make [] s left s' left' is = none_made size s.share s'.share (ap (λ z. z.share) is.0)
   follow_make (e ∷ more) s left s' left' is =
-      let answered = answered_make s left e.came e.items e.answer e.state e.left is.0.answered in
-      let helped = helps_make size e.state.share e.helped is.0.helps in
-      then_made size s.share e.helped s'.share (then_made size s.share e.state.share e.helped answered helped) (follow_make more (after e) e.left s' left' is.1)
+      then_made size s.share e.state.share s'.share (answered_make s left e.came e.items e.answer e.state e.left is.0) (follow_make more e.state e.left s' left' is.1)
 
   short_make : (s : SessionState size kept) (left : Option (List ℕ)) (text : List ℕ) (s' : SessionState size kept) (left' : Option (List ℕ)) → FallsShort s left text s' left' → MakesSome size s.share s'.share
   short_make s left text s' left' is =
@@ -198,7 +193,7 @@ module _ (size : Size) (kept : Kept) where
         | inr done ↦
             elim done [
               | inl met ↦ answered_make s left met.0 met.1 met.2 s' left' met.3
-              | inr pulled ↦ (pulled.3.calls.calls, pulled.3.calls.makes)
+              | inr pulled ↦ ([], makes_sight size s.share s'.share pulled.3.state pulled.3.sight)
             ]
       ]
 

@@ -13,7 +13,7 @@ use Rattle.session_lines.specs.declared.request.Next.{Next}
 use Rattle.session_lines.specs.declared.request.Next.TheVariants as next
 use Rattle.session_lines.specs.declared.request.SessionRequest.{SessionRequest}
 use Rattle.session_lines.specs.declared.request.SessionRequest.TheVariants as asked
-use Rattle.session_subscribers.specs.Holding.{Held, Adds, Closes, PullsAny, PullsShort, HelpsOthers}
+use Rattle.session_subscribers.specs.Holding.{Held, Adds, Closes, PullsAny, PullsShort}
 use Rattle.session_reads.specs.Found.{found_text}
 use Rattle.session_reads.specs.Reads.{Reads}
 use Rattle.change_ops.specs.Changes.{Change}
@@ -83,15 +83,13 @@ Meets next.TooLong s out out' answer s' = ⊥
 Meets next.Foreign s out out' answer s' = ⊥
 Meets next.End s out out' answer s' = ⊥
 
--- one came next of the input, and was met; what is left of the input, and the session's state then; and its share once
--- it helped others after that
+-- one came next of the input, and was met; what is left of the input, and the session's state then
 pub record Exchange (size : Size) (kept : Kept) : Type 0 where
   pub came : Next
   pub items : List ℕ
   pub answer : Reply
   pub left : Option (List ℕ)
   pub state : SessionState size kept
-  pub helped : Seen
 
 -- the line of a reply, with its LF
 abbrev pub reply_line : Reply → List ℕ
@@ -108,21 +106,15 @@ pub record IsAnswered {size : Size} {kept : Kept} (s : SessionState size kept) (
     pub next : IsNext left came left'
     pub met : Meets came s [] items answer s'
 
-pub record IsExchange {size : Size} {kept : Kept} (s : SessionState size kept) (left : Option (List ℕ))
-    (e : Exchange size kept) : Type 0
-  where
-    pub answered : IsAnswered s left e.came e.items e.answer e.state e.left
-    pub helps : HelpsOthers size e.state.share e.helped
-
--- the session's state after an exchange
-abbrev pub after : {size : Size} {kept : Kept} → Exchange size kept → SessionState size kept
-after e = record e.state { share = e.helped }
+abbrev pub IsExchange : {size : Size} {kept : Kept} → SessionState size kept → Option (List ℕ) → Exchange size kept
+    → Type 0
+IsExchange s left e = IsAnswered s left e.came e.items e.answer e.state e.left
 
 -- each begins where the one before it ended
 abbrev pub Follow : {size : Size} {kept : Kept} → SessionState size kept → Option (List ℕ) → List (Exchange size kept)
     → SessionState size kept → Option (List ℕ) → Type 0
 Follow s left [] s' left' = (s' ≡ s) × (left' ≡ left)
-Follow s left (e ∷ more) s' left' = IsExchange s left e × Follow (after e) e.left more s' left'
+Follow s left (e ∷ more) s' left' = IsExchange s left e × Follow e.state e.left more s' left'
 
 -- these were printed, one after another, after what a writer had
 pub record Converses {size : Size} {kept : Kept} (s : SessionState size kept) (left old : Option (List ℕ))

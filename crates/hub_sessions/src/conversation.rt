@@ -4,7 +4,7 @@ ghost use Rattle.refusals.specs.declared.reason.Reason.TheVariants as why;
 ghost use Rattle.session_lines.specs.declared.fault.ReadFault.TheVariants as read_fault;
 ghost use Rattle.session_lines.specs.declared.reply.Reply.TheVariants as told;
 ghost use Rattle.session_lines.specs.declared.request.SessionRequest.TheVariants as asked;
-ghost use Rattle.session_subscribers.specs.Holding.{AreOwnSubscribers, PullsShort};
+ghost use Rattle.session_subscribers.specs.Holding.{PullsShort};
 ghost use Rattle.session_reads.specs.Found.{found_text};
 ghost use Rattle.hub_sessions.specs.Sessions.{session_state, begins, Answers, AreApart, found_in, read_in};
 ghost use Rattle.hub_sessions.specs.Sessions.{TakesTurn, BreaksTurn, Ends, IsSession, ClosesAll, IsUnwritten};
@@ -26,7 +26,6 @@ use session_reads::found::{Answer, Found};
 use session_reads::reading::read;
 use session_subscribers::session_hub::{Held, SessionHub};
 use std::alloc::{AllocError, Global};
-use std::cell::Cell;
 use std::io;
 use std::io::{Read, Write};
 use std::sync::Wait;
@@ -123,7 +122,7 @@ fn write_reply<W: Write>(
 }
 
 /// Does what is asked, appends the lines of items to an empty string, and answers what was found and the line after
-/// that or those. Each subscriber that is held was added by the session itself.
+/// that or those.
 fn answer<
     's,
     N: Naming + HistoryNaming + Ledger + Send + Sync,
@@ -133,13 +132,12 @@ fn answer<
     hub: &SessionHub<'s, '_, N, R>,
     keeper: &mut K,
     share: &mut Share<N>,
-    held: &mut Vec<Held<N, R>>,
+    held: &mut Vec<Held<N>>,
     left: &mut SessionLimits,
     request: SessionRequest,
     out: &mut String,
 ) -> Result<Answer<'s>, AllocError>
     requires empty { string_bytes out.old ≡ [] }
-    requires own { AreOwnSubscribers share.old held.old.items }
     ensures answers { IfOk result (λ answer. Answers request
         (session_state N.size K.kept (K.stores keeper.old) share.old held.old.items left.old hub.now.options)
         (string_bytes out.old)
@@ -201,12 +199,11 @@ fn take_turn<
     hub: &SessionHub<'s, '_, N, R>,
     keeper: &mut K,
     share: &mut Share<N>,
-    held: &mut Vec<Held<N, R>>,
+    held: &mut Vec<Held<N>>,
     left: &mut SessionLimits,
     lines: &mut LineReader<I>,
     out: &mut String,
 ) -> Result<Turn<'s>, TurnFault>
-    requires own { AreOwnSubscribers share.old held.old.items }
     ensures ok { IfOk result (λ turn. TakesTurn turn
         (session_state N.size K.kept (K.stores keeper.old) share.old held.old.items left.old hub.now.options)
         lines.old.left (found_in turn ++ string_bytes out.new)
@@ -253,13 +250,12 @@ fn converse<
     hub: &SessionHub<'_, '_, N, R>,
     keeper: &mut K,
     share: &mut Share<N>,
-    held: &mut Vec<Held<N, R>>,
+    held: &mut Vec<Held<N>>,
     left: &mut SessionLimits,
     lines: &mut LineReader<I>,
     out: &mut String,
     writer: &mut O,
 ) -> Result<(), SessionFault>
-    requires own { AreOwnSubscribers share.old held.old.items }
     ensures ends { Ends result
         (session_state N.size K.kept (K.stores keeper.old) share.old held.old.items left.old hub.now.options)
         lines.old.left (O.contents writer.old)
@@ -271,7 +267,7 @@ fn converse<
         let turn = take_turn(hub, keeper, share, held, left, lines, out);
         write_reply(writer, &turn, out.as_str())?;
         match turn {
-            Ok(Turn::More(_)) => hub.help_others(share),
+            Ok(Turn::More(_)) => {},
             Ok(Turn::Last) => return Ok(()),
             Err(TurnFault::Read(error)) => return Err(SessionFault::Read(error)),
             Err(TurnFault::Memory) => return write_no_memory(writer),
@@ -291,12 +287,11 @@ fn begin<
     hub: &SessionHub<'_, '_, N, R>,
     keeper: &mut K,
     share: &mut Share<N>,
-    held: &mut Vec<Held<N, R>>,
+    held: &mut Vec<Held<N>>,
     left: &mut SessionLimits,
     reader: I,
     writer: &mut O,
 ) -> Result<(), SessionFault>
-    requires own { AreOwnSubscribers share.old held.old.items }
     ensures ends { Ends result
         (session_state N.size K.kept (K.stores keeper.old) share.old held.old.items left.old hub.now.options)
         (I.remaining reader) (O.contents writer.old)
@@ -318,7 +313,7 @@ fn close_all<N: Naming + HistoryNaming + Ledger, R: Wait + Copy>(
     rt: &R,
     hub: &Hub<'_, N, R>,
     share: &mut Share<N>,
-    held: Vec<Held<N, R>>,
+    held: Vec<Held<N>>,
 )
     ensures { ClosesAll N.size share.old share.new held.items }
 {
@@ -361,7 +356,6 @@ pub fn session<
         published,
         workers,
         options,
-        owes_help: Cell::new(false),
     };
     let mut held = Vec::new(alloc);
     let mut left = options.limits;

@@ -7,3 +7,4 @@ pub mod Begins
 pub mod Filling
 pub mod Settling
 pub mod Sending
+pub mod Looking

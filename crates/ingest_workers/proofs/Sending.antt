@@ -1,5 +1,5 @@
 -- A subscriber that a share added stays its own, and what was sent to it.
-use Rattle.std.proofs.Common.{◌≡◌, ℕ, Option, None, Some, Ok, List, [], ◌∷◌, ◌++◌, refl, ap, sym, ◌∙◌, subst, inl, inr, ⊎_elim, append_assoc}
+use Rattle.std.proofs.Common.{◌≡◌, ℕ, Option, None, Some, Ok, List, [], ◌∷◌, ◌++◌, ap, sym, ◌∙◌, subst, inl, inr, ⊎_elim, append_assoc}
 use Rattle.std.specs.Prelude.{slice_get, MatchOption}
 use Rattle.std.proofs.lemmas.Option.{same_Some}
 use mathlib.Core.List.{IsPrefix}
@@ -15,7 +15,7 @@ use Rattle.core_history.specs.declared.entry.Call.TheVariants as call
 use Rattle.core_history.specs.Runs.{CoreReply, Recorded, Records, called}
 use Rattle.core_history.specs.Hubs.{HubEntry, HubCall, Seen, IsHubRun}
 use Rattle.core_history.proofs.Staying.{Added, hub_added, adds_latest, adds_from}
-use Rattle.ingest_workers.specs.Calls.{Makes, WasSo, IsCall, subscribing}
+use Rattle.ingest_workers.specs.Calls.{Makes, WasSo, subscribing}
 use Rattle.ingest_workers.specs.Sending.{IsOwnSubscriber, IsMeeting, Sends}
 use Rattle.ingest_workers.proofs.Calls.{prefix_self, prefix_get, makes_call}
 

@@ -21,6 +21,7 @@ ghost use Rattle.ingest_workers.specs.Holdings.{Settles};
 ghost use Rattle.ingest_workers.specs.Sending.{IsOwnSubscriber, Sends};
 
 use crate::text::{next_text, some_texts};
+use crate::versions::some_versions;
 use call_history::knowledge::HistoryNaming;
 use change_counters::greatest_with;
 use change_history::refusal::SubmitError;
@@ -309,6 +310,25 @@ impl<'p, N: Naming + HistoryNaming + Ledger, R: Wait + Copy> Books<'p, N, R> {
         ensures consistent { IsStateOf N.size self.now.core }
     {
         self.recorded.core().version(number)
+    }
+
+    /// The number of the latest version, and the tokens of `most` versions from one on, or of as many as there are.
+    pub fn versions_from(
+        &self,
+        from: u64,
+        most: usize,
+    ) -> Result<(u64, Vec<VersionToken<N>>), AllocError>
+        ensures versions { IfOk result (λ found. (found.0 ≡ length self.now.core.changes)
+            × (found.1.items ≡ take most (drop from self.now.core.versions))) }
+        ensures consistent { IsStateOf N.size self.now.core }
+    {
+        let core = self.recorded.core();
+        let latest = core.count() as u64;
+        if core.lacks_version(from) {
+            return Ok((latest, Vec::new(self.alloc)));
+        }
+        let versions = some_versions(self.alloc, core, from, most)?;
+        Ok((latest, versions))
     }
 
     /// The token of the latest version, and how much there is of the hub.

@@ -16,6 +16,7 @@ ghost use Rattle.ingest_workers.specs.Sending.{IsOwnSubscriber, Sends};
 
 use crate::books::Books;
 use crate::kept::Kept;
+use crate::progress::Progress;
 use crate::turns::{Turn, Turns};
 use crate::under_way::{Counted, UnderWay};
 use call_history::knowledge::HistoryNaming;
@@ -46,6 +47,7 @@ pub struct Hub<'p, N: Naming + HistoryNaming + Ledger, R: Wait + Copy> {
     turns: Turns,
     books: Mutex<Books<'p, N, R>>,
     kept: Kept<N>,
+    progress: Progress,
     sessions: UnderWay,
     changes: UnderWay,
 }
@@ -112,6 +114,7 @@ impl<'p, N: Naming + HistoryNaming + Ledger, R: Wait + Copy> Hub<'p, N, R> {
     {
         // All other memory is found before version 0 is published, which stays published.
         let kept = Kept::new(alloc, published.size())?;
+        let progress = Progress::new(alloc, published.size())?;
         let mut given = Vec::with_capacity(alloc, shares)?;
         let core = Core::new(rt, alloc, published)?;
         let (recorded, board, all) = RecordedCore::new(core, start);
@@ -123,6 +126,7 @@ impl<'p, N: Naming + HistoryNaming + Ledger, R: Wait + Copy> Hub<'p, N, R> {
             turns: Turns::new(),
             books: Mutex::new(books),
             kept,
+            progress,
             sessions: UnderWay::new(),
             changes: UnderWay::new(),
         };
@@ -173,6 +177,32 @@ impl<'p, N: Naming + HistoryNaming + Ledger, R: Wait + Copy> Hub<'p, N, R> {
         ensures { IsLook N.size share.old (λ s. result ≡ slice_get s.versions number) share.new }
     {
         self.hold(rt).look(share).version(number)
+    }
+
+    /// The number of the latest version, and the tokens of `most` versions from one on, or of as many as there were. A
+    /// version stays, so what is to be known of these needs no lock.
+    pub fn versions_from(
+        &self,
+        rt: &R,
+        share: &mut Share<N>,
+        from: u64,
+        most: usize,
+    ) -> Result<(u64, Vec<VersionToken<N>>), AllocError>
+        ensures { IsLook N.size share.old (λ s. IfOk result (λ found. (found.0 ≡ length s.changes)
+            × (found.1.items ≡ take most (drop from s.versions)))) share.new }
+    {
+        self.hold(rt).look(share).versions_from(from, most)
+    }
+
+    /// Notes the first version that the subscriber of a session wasn't given whole.
+    pub fn note_progress(&self, subscriber: usize, version: u64) {
+        self.progress.note(subscriber, version);
+    }
+
+    /// How many versions the slowest open subscriber of a session wasn't given whole, where this is the number of the
+    /// latest.
+    pub fn lag(&self, latest: u64) -> u64 {
+        self.progress.lag(latest)
     }
 
     /// The token of the latest version, and how much there was of the hub.
@@ -334,6 +364,7 @@ impl<'p, N: Naming + HistoryNaming + Ledger, R: Wait + Copy> Hub<'p, N, R> {
     {
         let closed = self.hold(rt).books.close(share, id);
         self.kept.close(rt, id);
+        self.progress.close(id);
         closed
     }
 
@@ -344,6 +375,7 @@ impl<'p, N: Naming + HistoryNaming + Ledger, R: Wait + Copy> Hub<'p, N, R> {
             turns: _,
             books,
             kept: _,
+            progress: _,
             sessions: _,
             changes: _,
         } = self;

@@ -5,6 +5,8 @@ pub mod books;
 pub mod hub;
 pub mod ingest;
 pub mod kept;
+mod progress;
 mod text;
 mod turns;
 pub mod under_way;
+mod versions;

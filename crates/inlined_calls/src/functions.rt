@@ -13,7 +13,7 @@ pub enum FunctionSlot {
 }
 
 /// A call that a run is in: the function that calls, and the slot of the call.
-#[derive(Clone, Copy)]
+#[derive(Clone, Copy, PartialEq, Eq)]
 pub struct Caller {
     pub function: usize,
     pub slot: usize,

@@ -65,10 +65,10 @@ limits_of size =
       open_subscribers = most_open size;
     }
 
--- what is told of so much, where this is the latest version, and there are so many sessions; a character that was
--- inserted and isn't visible was removed
-abbrev pub stats_of : Size → Counts → Version → ℕ → Option Memory → Stats
-stats_of size counts latest sessions memory =
+-- what is told of so much, where this is the latest version, there are so many sessions, and the slowest of their
+-- subscribers is so many versions behind; a character that was inserted and isn't visible was removed
+abbrev pub stats_of : Size → Counts → Version → ℕ → ℕ → Option Memory → Stats
+stats_of size counts latest sessions lag memory =
     record {
       versions = counts.changes;
       characters = length (chars latest.text);
@@ -78,7 +78,7 @@ stats_of size counts latest sessions memory =
       subscribed = counts.subscribed;
       sessions = sessions;
       bytes = length latest.text;
-      lag = counts.lag;
+      lag = lag;
       used = used_by size counts (length latest.text);
       limits = limits_of size;
       memory = memory;
@@ -89,12 +89,12 @@ abbrev pub told_limit : Option Memory → Option ℕ
 told_limit None = None
 told_limit (Some memory) = Some memory.limit
 
--- these are those of a hub of this size, whose document has this limit of memory, but for the number of its sessions
--- and the memory that is used, of which nothing is said
+-- these are those of a hub of this size, whose document has this limit of memory, but for the number of its sessions,
+-- how far their subscribers are behind and the memory that is used, of which nothing is said
 pub record AreStats (size : Size) (limit : Option ℕ) (s : Core QueueSink) (stats : Stats) : Type 0 where
   pub counts : Counts
   pub counted : AreCounts s counts
   pub latest : Token Version
   pub newest : IsLatest s latest
-  pub told : stats ≡ stats_of size counts latest.value stats.sessions stats.memory
+  pub told : stats ≡ stats_of size counts latest.value stats.sessions stats.lag stats.memory
   pub limited : told_limit stats.memory ≡ limit

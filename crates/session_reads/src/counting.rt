@@ -86,16 +86,18 @@ fn limits_of(size: Size) -> Limits
     }
 }
 
-/// What is told of a hub of this size with so much in it, of its latest version, with so many sessions and this memory.
+/// What is told of a hub of this size with so much in it, of its latest version, with so many sessions, whose slowest
+/// subscriber is so many versions behind, and with this memory.
 fn stats_of(
     size: Size,
     counts: Counts,
     version: &PieceVersion,
     sessions: u64,
+    lag: u64,
     memory: Option<Memory>,
 ) -> Stats
     requires { AreWithinLimits size counts }
-    ensures { result ≡ stats_of size counts version.now sessions memory }
+    ensures { result ≡ stats_of size counts version.now sessions lag memory }
 {
     let characters = version.character_count() as u64;
     let bytes = text_bytes(version);
@@ -108,7 +110,7 @@ fn stats_of(
         subscribed: counts.subscribed,
         sessions,
         bytes,
-        lag: counts.lag,
+        lag,
         used: used_by(size, counts, bytes),
         limits: limits_of(size),
         memory,
@@ -159,6 +161,7 @@ pub(crate) fn stats<N: Naming + HistoryNaming + Ledger, R: Wait + Copy>(
         counts,
         published.look(&latest),
         hub.session_count(),
+        hub.lag(counts.changes),
         memory,
     )
 }

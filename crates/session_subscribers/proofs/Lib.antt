@@ -1,5 +1,4 @@
-pub mod Takings
-pub mod Holdings
-pub mod PullCalls
+pub mod Givings
+pub mod Pulls
 pub mod Refusals
-pub mod Meetings
+pub mod Versions

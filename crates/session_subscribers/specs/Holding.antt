@@ -1,8 +1,7 @@
 -- The subscribers of a session, and what requests do to them.
-use Rattle.std.specs.Prelude.{◌≡◌, ◌<◌, ◌≤◌, ◌⊎◌, ◌==◌, ℕ, Bool, true, Option, None, Some, Result, Ok, List, []}
-use Rattle.std.specs.Prelude.{◌∷◌, ◌++◌, Err, All, length, map, position, slice_get, slice_set, IsTrue, IsFalse}
+use Rattle.std.specs.Prelude.{◌≡◌, ◌<◌, ◌≤◌, ◌⊎◌, ◌==◌, ℕ, Bool, Option, None, Some, Result, Ok, List, []}
+use Rattle.std.specs.Prelude.{◌∷◌, ◌++◌, Err, length, position, slice_get, slice_set, IsTrue, IsFalse}
 use Rattle.std.specs.List.{remove}
-use Rattle.std.specs.declared.alloc.AllocError.{AllocError}
 use Rattle.change_ops.specs.declared.size.Size.{Size}
 use Rattle.change_ops.specs.Sizes.{most_changes}
 use Rattle.filters.specs.declared.rules.RuleSet.{RuleSet}
@@ -10,67 +9,48 @@ use Rattle.bpf_words.specs.Words.{IsProgram, IsRefused, program_of}
 use Rattle.semantics.specs.Step.{Program}
 use Rattle.filters.specs.Accepted.{IsAccepted, IsRefused as IsRefusedBy}
 use Rattle.version_history.specs.Tokens.{Token}
-use Rattle.feeds.specs.Orderly.{IsOrderly}
-use Rattle.feeds.specs.Promise.{Promise, IsPromised}
-use Rattle.feeds.specs.Batches.{Item}
-use Rattle.feeds.specs.Feed.{Subscriber}
-use Rattle.feeds.specs.Stream.{BeginsStream}
-use Rattle.hub_core.specs.Machine.{Core, HasNoPlace, HasNone, IsOpen}
+use Rattle.stream_readers.specs.Readers.{Reader, fresh}
+use Rattle.hub_core.specs.Machine.{Core, HasNoPlace}
 use Rattle.hub_core.specs.declared.error.SubscribeError.{SubscribeError}
 use Rattle.hub_core.specs.declared.error.SubscribeError.TheVariants as subscribe
 use Rattle.hub_core.specs.declared.run.Reply.TheVariants as told
 use Rattle.core_history.specs.declared.entry.Call.TheVariants as call
-use Rattle.core_history.specs.declared.entry.Entry.TheVariants as entry
 use Rattle.core_history.specs.Runs.{called}
 use Rattle.hub_core.specs.declared.error.NoSubscriber.{NoSubscriber}
-use Rattle.subscriber_queues.specs.Queue.{Line, QueueSink, Subscription, Begins, IsCapacity}
-use Rattle.core_history.specs.Hubs.{HubEntry, Seen}
-use Rattle.ingest_workers.specs.Calls.{Makes, IsLook, WasSo, subscribing}
-use Rattle.ingest_workers.specs.Sending.{IsOwnSubscriber}
-use Rattle.filter_workers.specs.Turns.{Helps}
+use Rattle.subscriber_queues.specs.Queue.{QueueSink, IsCapacity}
+use Rattle.core_history.specs.Hubs.{Seen}
+use Rattle.ingest_workers.specs.Calls.{Makes, IsLook, IsSight, WasSo}
 use Rattle.hub_requests.specs.Limits.{takes_subscriber, after_subscriber}
 use Rattle.hub_requests.specs.declared.limits.SessionLimits.{SessionLimits}
 use Rattle.refusals.specs.declared.reason.Reason.{Reason}
 use Rattle.refusals.specs.declared.reason.Reason.TheVariants as reason
 use Rattle.session_lines.specs.declared.reply.Reply.{Reply}
 use Rattle.session_lines.specs.declared.reply.Reply.TheVariants as reply
-use Rattle.session_subscribers.specs.Items.{Takes, TakesShort}
+use Rattle.session_subscribers.specs.Items.{Gives, GivesShort}
 
--- a subscriber that a session holds: its id, and its end of the queue
+-- a subscriber that a session holds: its id, and how far its program's stream was read
 pub record Held : Type 0 where
   pub id : ℕ
-  pub items : Subscription
+  pub reader : Reader
 
 -- the index of the one with an id among these
 abbrev pub index_in : List Held → ℕ → Option ℕ
 index_in held id = position (λ one. one.id == id) held
 
--- each was added by a call of the share's own
-abbrev pub AreOwnSubscribers : Seen → List Held → Type 0
-AreOwnSubscribers v held = All (λ one. IsOwnSubscriber v one.id one.items) held
+-- the first version of a subscriber: the one that is named, or the latest when the hub was looked at
+abbrev pub IsFirst : Size → Seen → Seen → Option ℕ → ℕ → Type 0
+IsFirst size v w None first = WasSo size v w (λ s. first ≡ length s.changes)
+IsFirst size v w (Some number) first = first ≡ number
 
--- what is promised of the queue of a subscription at a hub of this size: the stream of its own program, from the
--- version that is named on
-abbrev pub promise_of : Size → List ℕ → Option ℕ → Promise
-promise_of size bytes first = record { size = size; program = program_of bytes; first = first }
-
--- the program of these bytes, which the rules accept, was subscribed at a hub of this size, by the one call that was
--- made: under this id, with the other end of this queue, which is empty, of this capacity and with that promise, from
--- its first version on
-pub record IsSubscribed (size : Size) (v w : Seen) (rules : RuleSet) (capacity : ℕ) (bytes : List ℕ)
-    (first : Option ℕ) (id : ℕ) (line : Line) : Type 0
+-- the one call that was made subscribes a program from such a version on, with a queue that nothing was sent to, and is
+-- answered so
+pub record Asks (size : Size) (v w : Seen) (program : Token Program) (named : Option ℕ) (first : ℕ)
+    (answer : Result ℕ SubscribeError) : Type 0
   where
-    pub program : IsProgram bytes
-    pub accepted : IsAccepted rules (program_of bytes)
-    pub token : Token Program
-    pub same : token.value ≡ program_of bytes
-    pub calls : Makes size v (called (subscribing first token (record {
-      line = line;
-      sent = [];
-      capacity = capacity;
-      promise = Some (promise_of size bytes first);
-      sends = true;
-    })) (told.Subscribed (Ok id)) ∷ []) w
+    pub from : IsFirst size v w named first
+    pub sink : QueueSink
+    pub none : sink.sent ≡ []
+    pub calls : Makes size v (called (call.SubscribeFrom program sink first) (told.Subscribed answer) ∷ []) w
 
 -- the bytes are a program that the rules accept
 abbrev pub AreSafe : RuleSet → List ℕ → Type 0
@@ -78,9 +58,9 @@ AreSafe rules bytes = IsProgram bytes × IsAccepted rules (program_of bytes)
 
 -- the one call that was made was refused for this
 abbrev pub IsRefusedFor : Size → Seen → Seen → List ℕ → Option ℕ → SubscribeError → Type 0
-IsRefusedFor size v w bytes first error =
-    (token : Token Program) × (sink : QueueSink) × (token.value ≡ program_of bytes)
-    × Makes size v (called (subscribing first token sink) (told.Subscribed (Err error)) ∷ []) w
+IsRefusedFor size v w bytes named error =
+    (program : Token Program) × (first : ℕ) × (program.value ≡ program_of bytes)
+    × Asks size v w program named first (Err error)
 
 -- the hub was looked at, and had a place; and when it was looked at again, no version had this number yet
 abbrev pub LacksVersion : Size → Seen → Seen → ℕ → Type 0
@@ -108,17 +88,14 @@ abbrev pub IsPastShare : Seen → Seen → RuleSet → List ℕ → SessionLimit
 IsPastShare v w rules bytes left why =
     (why ≡ reason.SubscribersFull) × AreSafe rules bytes × IsFalse (takes_subscriber left) × (w ≡ v)
 
--- one more is held, with the end of its queue, which has that promise and which nothing was taken from, and the session
--- has one less left; or the same as before
+-- one more is held: the program of these bytes, which the rules accept, with nothing read of its stream; and the
+-- session has one less left; or the same as before
 abbrev pub Adds : Size → Seen → Seen → RuleSet → ℕ → List ℕ → Option ℕ → SessionLimits → List Held → Reply
     → SessionLimits → List Held → Type 0
-Adds size v w rules capacity bytes first left held (reply.Subscribed id) left' held' =
-    (line : Line) × (held' ≡ held
-    ++ record {
-      id = id;
-      items = record { line = line; promise = Some (promise_of size bytes first); taken = []; shown = [] };
-    } ∷ [])
-    × IsSubscribed size v w rules capacity bytes first id line
+Adds size v w rules capacity bytes named left held (reply.Subscribed id) left' held' =
+    AreSafe rules bytes × IsCapacity capacity × (program : Token Program) × (program.value ≡ program_of bytes)
+    × (first : ℕ) × Asks size v w program named first (Ok id)
+    × (held' ≡ held ++ record { id = id; reader = fresh program first } ∷ [])
     × IsTrue (takes_subscriber left) × (left' ≡ after_subscriber left)
 Adds size v w rules capacity bytes first left held (reply.Refused why) left' held' =
     (held' ≡ held) × (left' ≡ left)
@@ -135,76 +112,36 @@ Closes size v w held id (reply.Refused why) held' =
     (why ≡ reason.NoSubscriber) × (index_in held id ≡ None) × (held' ≡ held) × (w ≡ v)
 Closes size v w held id _ held' = ⊥
 
--- the hub had accepted as many changes as its size allows, so that no version comes any more; or fewer
-abbrev pub WasFull : Size → Seen → Seen → Type 0
-WasFull size v w = WasSo size v w (λ s. length s.changes ≡ most_changes size)
+-- all that was due when the hub was looked at was given
+abbrev pub IsAllGiven : Core QueueSink → Reader → Type 0
+IsAllGiven s r = (r.pending ≡ []) × (length s.changes < r.next)
 
-abbrev pub WasNotFull : Size → Seen → Seen → Type 0
-WasNotFull size v w = WasSo size v w (λ s. length s.changes < most_changes size)
+-- how a pull is answered that asked for at most `count` items and was given so many, where the hub was looked at: with
+-- their number, which is `count` unless all that is due was given, or that no memory was found. A session that may read
+-- of the text is told besides where it was given none since the hub has accepted as many changes as its size allows, so
+-- that no version comes any more
+abbrev pub TellsItems : Size → Core QueueSink → Bool → ℕ → ℕ → Reader → Reply → Type 0
+TellsItems size s reads count many r (reply.Items told) =
+    (told ≡ many) × (many < count → IsAllGiven s r)
+    × (many ≡ 0 → 0 < count → IsTrue reads → length s.changes < most_changes size)
+TellsItems size s reads count many r reply.NoItemsFull =
+    (many ≡ 0) × (0 < count) × IsAllGiven s r × IsTrue reads × (length s.changes ≡ most_changes size)
+TellsItems size s reads count many r (reply.Refused why) = why ≡ reason.OutOfMemory
+TellsItems size s reads count many r _ = ⊥
 
--- a call that a pull of this subscriber makes: a job of it is committed, or what can be sent to it is
-abbrev pub IsPullCall : ℕ → HubEntry → Type 0
-IsPullCall id (entry.Called (call.Commit job) (told.Committed committed)) = job.subscriber ≡ id
-IsPullCall id (entry.Called (call.Pump pumped) (told.Pumped sent)) = pumped ≡ id
-IsPullCall id _ = ⊥
-
--- such calls were made, and no others
-pub record MakesPullCalls (size : Size) (v w : Seen) (id : ℕ) : Type 0 where
-  pub calls : List HubEntry
-  pub makes : Makes size v calls w
-  pub each : All (IsPullCall id) calls
-
--- the subscriber with this id was open, had this program, and was sent these items and perhaps more, all of which
--- begins the program's stream over the changes that the hub had accepted; or it was closed
-abbrev pub IsSentTo : ℕ → Token Program → List Item → Core QueueSink → Type 0
-IsSentTo id program items s =
-    HasNone s id
-    ⊎ ((a : Subscriber QueueSink) × IsOpen s id a × (a.program ≡ program) × Begins items a.sink.sent
-    × BeginsStream program.value s.changes a.first (length s.changes) (map (λ item. item.what) a.sink.sent))
-
--- the subscriber with this id was open, was sent each version up to this one whole, and these items are all that it was
--- sent; or it was closed
-abbrev pub IsAllUpTo : ℕ → ℕ → List Item → Core QueueSink → Type 0
-IsAllUpTo id last items s =
-    HasNone s id ⊎ ((a : Subscriber QueueSink) × IsOpen s id a × (last < a.cursor) × (a.sink.sent ≡ items))
-
--- what one subscriber's pull took of the hub: a call of the session's own had added the subscriber, with a program; and
--- all items that were ever taken of it are among those that the hub sent to it
-pub record IsFromHub (size : Size) (v w : Seen) (id : ℕ) (items items' : Subscription) : Type 0 where
-  pub added : IsOwnSubscriber v id items
-  pub sent : WasSo size v w (IsSentTo id added.program items'.taken)
-
--- the latest version was looked up; and at some moment after that all items of the versions up to it were taken
-abbrev pub TakesAll : Size → Seen → Seen → ℕ → Subscription → Type 0
-TakesAll size v w id items =
-    (last : ℕ) × (u : Seen) × IsLook size v (λ s. last ≡ length s.changes) u
-    × WasSo size u w (IsAllUpTo id last items.taken)
-
--- how a pull is answered that asked for at most `count` items and took so many: with their number, which is `count`
--- unless all that is due was taken, or that no memory was found. A session that may read of the text is told besides
--- where it took none since the hub is full
-abbrev pub TellsItems : Size → Seen → Seen → Bool → ℕ → ℕ → ℕ → Subscription → Reply → Type 0
-TellsItems size v w reads id count many items (reply.Items told) =
-    (told ≡ many) × (many < count → TakesAll size v w id items)
-    × (many ≡ 0 → 0 < count → IsTrue reads → WasNotFull size v w)
-TellsItems size v w reads id count many items reply.NoItemsFull =
-    (many ≡ 0) × (0 < count) × TakesAll size v w id items × IsTrue reads × WasFull size v w
-TellsItems size v w reads id count many items (reply.Refused why) = why ≡ reason.OutOfMemory
-TellsItems size v w reads id count many items _ = ⊥
-
--- items of one subscriber were taken, at most `count`, and it is answered how many; or that no memory was found
-pub record Pulls (size : Size) (v w : Seen) (reads : Bool) (id count : ℕ) (items items' : Subscription)
-    (out out' : List ℕ) (answer : Reply) : Type 0
+-- the hub was looked at once, and no call made; of the versions that it had then items were given, at most `count`, and
+-- it is answered how many, or that no memory was found
+pub record Pulls (size : Size) (v w : Seen) (reads : Bool) (count : ℕ) (r r' : Reader) (out out' : List ℕ)
+    (answer : Reply) : Type 0
   where
-    pub calls : MakesPullCalls size v w id
+    pub state : Core QueueSink
+    pub sight : IsSight size v state w
     pub many : ℕ
     pub most : many ≤ count
-    pub takes : Takes many items items' out out'
-    pub told : TellsItems size v w reads id count many items' answer
+    pub gives : Gives state.versions many r r' out out'
+    pub told : TellsItems size state reads count many r' answer
 
--- items of the subscriber with the id were taken, and of no other. All that the session ever took of it are the batches
--- of one program on versions one after another, the last perhaps unfinished; as was promised: they begin the stream
--- of its own program over accepted changes, from its first version on; and these are the hub's own changes
+-- items of the subscriber with the id were given, and of no other
 pub record PullsHeld (size : Size) (v w : Seen) (reads : Bool) (id count : ℕ) (held held' : List Held)
     (out out' : List ℕ) (answer : Reply) : Type 0
   where
@@ -212,12 +149,9 @@ pub record PullsHeld (size : Size) (v w : Seen) (reads : Bool) (id count : ℕ) 
     pub there : index_in held id ≡ Some index
     pub one : Held
     pub is : slice_get held index ≡ Some one
-    pub items : Subscription
-    pub others : held' ≡ slice_set held index (record one { items = items })
-    pub orderly : IsOrderly items.taken
-    pub promised : IsPromised one.items.promise items.taken
-    pub from : IsFromHub size v w id one.items items
-    pub pulls : Pulls size v w reads id count one.items items out out' answer
+    pub reader : Reader
+    pub others : held' ≡ slice_set held index (record one { reader = reader })
+    pub pulls : Pulls size v w reads count one.reader reader out out' answer
 
 -- or none had it, and nothing was done
 pub record PullsNone (v w : Seen) (id : ℕ) (held held' : List Held) (out out' : List ℕ) (answer : Reply) : Type 0 where
@@ -231,24 +165,16 @@ abbrev pub PullsAny : Size → Seen → Seen → Bool → ℕ → ℕ → List H
 PullsAny size v w reads id count held held' out out' answer =
     PullsHeld size v w reads id count held held' out out' answer ⊎ PullsNone v w id held held' out out' answer
 
--- no memory was found for the lines of a pull: items of the subscriber with the id were taken, and of no other, and
--- whole lines of them are printed
+-- no memory was found for the lines of a pull: the hub was looked at once, items of the subscriber with the id were
+-- given, and of no other, and whole lines of them are printed
 pub record PullsShort (size : Size) (v w : Seen) (id count : ℕ) (held held' : List Held) (out out' : List ℕ) : Type 0
   where
-    pub calls : MakesPullCalls size v w id
+    pub state : Core QueueSink
+    pub sight : IsSight size v state w
     pub index : ℕ
     pub there : index_in held id ≡ Some index
     pub one : Held
     pub is : slice_get held index ≡ Some one
-    pub items : Subscription
-    pub others : held' ≡ slice_set held index (record one { items = items })
-    pub orderly : IsOrderly items.taken
-    pub promised : IsPromised one.items.promise items.taken
-    pub takes : TakesShort count one.items items out out'
-    pub from : IsFromHub size v w id one.items items
-
--- where a pull computed something, one short batch may be computed for whichever subscriber is due, once it is answered
-abbrev pub HelpsOthers : Size → Seen → Seen → Type 0
-HelpsOthers size v w =
-    (w ≡ v)
-    ⊎ ((told : Result Bool AllocError) × (calls : List HubEntry) × Makes size v calls w × Helps 262144 calls told)
+    pub reader : Reader
+    pub others : held' ≡ slice_set held index (record one { reader = reader })
+    pub gives : GivesShort state.versions count one.reader reader out out'

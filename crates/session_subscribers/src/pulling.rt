@@ -1,28 +1,22 @@
-ghost use Rattle.std.specs.Prelude.{◌≡◌, ◌<◌, ◌≤◌, ◌⊎◌, ◌↔◌, ⊤, IfOk, OnErr, IsTrue, MatchOption, string_bytes};
+ghost use Rattle.std.specs.Prelude.{◌≡◌, ◌<◌, ◌≤◌, ◌⊎◌, ◌↔◌, [], IfOk, OnErr, IsTrue, string_bytes};
 ghost use Rattle.change_ops.specs.Sizes.{most_changes};
-ghost use Rattle.subscriber_queues.specs.Queue.{Begins};
-ghost use Rattle.ingest_workers.specs.Sending.{IsOwnSubscriber};
-ghost use Rattle.session_subscribers.specs.Holding.{AreOwnSubscribers, Pulls, PullsAny, PullsShort, MakesPullCalls};
-ghost use Rattle.session_subscribers.specs.Holding.{HelpsOthers};
-ghost use Rattle.session_subscribers.specs.Items.{item_reply, Takes, TakesShort};
+ghost use Rattle.ingest_workers.specs.Calls.{IsLook};
+ghost use Rattle.session_subscribers.specs.Holding.{Pulls, PullsAny, PullsShort};
+ghost use Rattle.session_subscribers.specs.Items.{item_reply, Takes, TakesShort, GivesShort};
+ghost use Rattle.session_subscribers.specs.Streams.{PullsBeginTheStream};
 
 use crate::session_hub::{Held, SessionHub, index_of};
 use call_history::knowledge::HistoryNaming;
 use core_history::share::Share;
 use feeds::item::Finding;
-use filter_workers::work::{catch_up, help};
 use refusals::reason::Reason;
 use session_lines::reply::Reply;
 use std::alloc::AllocError;
 use std::sync::Wait;
 use std::sync::ledger::Ledger;
 use std::thread::Threads;
-use subscriber_queues::ends::Subscription;
+use stream_readers::reader::StreamReader;
 use version_history::published::Naming;
-
-/// The most steps of a batch that a session computes for others: about half a millisecond, which its client's next
-/// request may have to wait.
-const STEPS_FOR_OTHERS: usize = 262_144;
 
 /// What is printed of an item.
 fn reply_of(what: Finding) -> Reply
@@ -42,80 +36,31 @@ fn reply_of(what: Finding) -> Reply
     }
 }
 
-/// Takes the items that wait, at most `most`, and appends their lines. It answers how many.
-fn take_waiting<N: Naming, R: Wait + Copy>(
-    items: &mut Subscription<N, R>,
+/// Gives the items that are pending, at most `most`, and appends their lines. It answers how many.
+fn give_pending<N: Naming>(
+    reader: &mut StreamReader<N>,
     most: usize,
     out: &mut String,
 ) -> Result<usize, AllocError>
-    ensures ok { IfOk result (λ taken. (taken ≤ most)
-        × Takes taken items.old items.new (string_bytes out.old) (string_bytes out.new)) }
-    ensures all { IfOk result (λ taken. taken < most → Begins items.new.shown items.new.taken) }
-    ensures shown { items.new.shown ≡ items.old.shown }
-    ensures err { OnErr result (TakesShort most items.old items.new (string_bytes out.old) (string_bytes out.new)) }
+    ensures ok { IfOk result (λ given. (given ≤ most)
+        × Takes given reader.old reader.new (string_bytes out.old) (string_bytes out.new)) }
+    ensures all { IfOk result (λ given. given < most → reader.new.pending ≡ []) }
+    ensures err { OnErr result (TakesShort most reader.old reader.new (string_bytes out.old)
+        (string_bytes out.new)) }
 {
-    for taken in 0..most {
-        let Some(item) = items.take() else {
-            return Ok(taken);
+    for given in 0..most {
+        let Some(what) = reader.next_finding() else {
+            return Ok(given);
         };
-        reply_of(item.what).push_line(out)?;
+        reply_of(what).push_line(out)?;
     }
     Ok(most)
-}
-
-/// Whether a subscriber was sent all versions up to this one, or is closed, by the first one that it wasn't sent whole.
-fn is_beyond(cursor: Option<u64>, last: u64) -> bool
-    ensures { IsTrue result ↔ MatchOption cursor ⊤ (λ first. last < first) }
-{
-    match cursor {
-        None => true,
-        Some(first) => last < first,
-    }
 }
 
 impl<
     N: Naming + HistoryNaming + Ledger + Send + Sync,
     R: Threads + Wait + Copy + Send + Sync,
 > SessionHub<'_, '_, N, R> {
-    /// Computes the first batch that this subscriber waits for, whoever else computes it, if its version is one of
-    /// those up to this one.
-    fn compute_own(&self, share: &mut Share<N>, id: usize, last: u64) -> Result<(), AllocError>
-        ensures { MakesPullCalls N.size share.old share.new id }
-    {
-        let waited = catch_up(
-            &self.rt,
-            self.alloc,
-            self.hub,
-            self.published,
-            share,
-            id,
-            last,
-            self.workers,
-        )?;
-        if waited {
-            self.owes_help.set(true);
-        }
-        Ok(())
-    }
-
-    /// Where a pull computed something since the last call, computes one short batch for whichever subscriber is due,
-    /// those of other sessions too. To be called once the pull was answered. Where no memory is found, what a
-    /// subscriber is owed is handed out again.
-    pub fn help_others(&self, share: &mut Share<N>)
-        ensures { HelpsOthers N.size share.old share.new }
-    {
-        if self.owes_help.replace(false) {
-            let _ = help(
-                &self.rt,
-                self.alloc,
-                self.hub,
-                self.published,
-                share,
-                STEPS_FOR_OTHERS,
-            );
-        }
-    }
-
     /// What answers a pull of at most `count` items that took so many, where the latest version had this number before.
     /// Where it took none since the hub is full, none comes any more: a session that may read is told so.
     fn items_reply(&self, count: usize, taken: usize, latest: u64) -> Reply
@@ -131,57 +76,47 @@ impl<
         }
     }
 
-    /// Computes and takes items of the versions up to the one that is the latest now, until `count` are taken or all
-    /// that are due.
-    ///
-    /// A round in which the subscriber waited for a batch takes at least one item. Where none is left the hub tells how
-    /// far the subscriber was sent. What is published meanwhile is left to the next pull.
+    /// Looks at the hub once, and gives items of the versions that it has, until `count` are given or all that are due.
+    /// The program is run outside of the lock.
     fn pull_from(
         &self,
         share: &mut Share<N>,
-        id: usize,
-        items: &mut Subscription<N, R>,
+        reader: &mut StreamReader<N>,
         count: usize,
         out: &mut String,
     ) -> Result<Reply, AllocError>
-        requires { IsOwnSubscriber share.old id items.old }
-        ensures ok { IfOk result (Pulls N.size share.old share.new self.now.options.reads id count items.old items.new
+        ensures ok { IfOk result (Pulls N.size share.old share.new self.now.options.reads count reader.old reader.new
             (string_bytes out.old) (string_bytes out.new)) }
-        ensures err { OnErr result (TakesShort count items.old items.new (string_bytes out.old)
-            (string_bytes out.new)) }
-        ensures calls { MakesPullCalls N.size share.old share.new id }
+        ensures err { OnErr result (IsLook N.size share.old (λ s. GivesShort s.versions count reader.old reader.new
+            (string_bytes out.old) (string_bytes out.new)) share.new) }
     {
-        let latest = self.hub.latest(&self.rt, share);
-        let mut taken = 0;
-        for _round in self.rt.forever() {
-            if taken == count {
+        let from = reader.next_version();
+        let Ok((latest, versions)) = self.hub.versions_from(&self.rt, share, from, count) else {
+            return Ok(Reply::Refused(Reason::OutOfMemory));
+        };
+        let mut given = give_pending(reader, count, out)?;
+        for version in &versions {
+            if given == count {
                 break;
             }
-            let computed = self.compute_own(share, id, latest);
-            let cursor = self.hub.send(&self.rt, share, id, items);
-            let more = take_waiting(items, count - taken, out)?;
-            taken += more;
-            let Ok(()) = computed else {
+            let judged = reader.judge(&self.rt, self.alloc, self.published, version, self.workers);
+            let Ok(()) = judged else {
                 return Ok(Reply::Refused(Reason::OutOfMemory));
             };
-            if more == 0 && is_beyond(cursor, latest) {
-                break;
-            }
+            given += give_pending(reader, count - given, out)?;
         }
-        Ok(self.items_reply(count, taken, latest))
+        Ok(self.items_reply(count, given, latest))
     }
 
-    /// Takes items of a subscriber of the session, appends their lines, and answers what is printed after them. Each
-    /// that it holds was added by itself.
+    /// Gives items of a subscriber of the session, appends their lines, and answers what is printed after them.
     pub fn pull(
         &self,
         share: &mut Share<N>,
-        held: &mut Vec<Held<N, R>>,
+        held: &mut Vec<Held<N>>,
         id: usize,
         count: usize,
         out: &mut String,
     ) -> Result<Reply, AllocError>
-        requires own { AreOwnSubscribers share.old held.old.items }
         ensures ok { IfOk result (PullsAny N.size share.old share.new self.now.options.reads id count held.old.items
             held.new.items (string_bytes out.old) (string_bytes out.new)) }
         ensures err { OnErr result (PullsShort N.size share.old share.new id count held.old.items held.new.items
@@ -191,10 +126,13 @@ impl<
             return Ok(Reply::Refused(Reason::NoSubscriber));
         };
         let one = &mut held[index];
-        let reply = self.pull_from(share, id, &mut one.items, count, out);
-        // Once more, so that what was taken is known to have been sent.
-        let _ = self.hub.send(&self.rt, share, id, &mut one.items);
-        one.items.stays_orderly();
+        let reply = self.pull_from(share, &mut one.reader, count, out);
+        self.hub.note_progress(id, one.reader.first_ungiven());
         reply
     }
 }
+
+/// What the pulls of a subscriber give, one after another, begins its program's stream.
+pub fn pulls_begin_the_stream()
+    ensures { PullsBeginTheStream }
+{}

@@ -5,11 +5,10 @@ use call_history::knowledge::HistoryNaming;
 use hub_requests::limits::SessionOptions;
 use ingest_workers::hub::Hub;
 use std::alloc::Global;
-use std::cell::Cell;
 use std::marker::Model;
 use std::sync::Wait;
 use std::sync::ledger::Ledger;
-use subscriber_queues::ends::Subscription;
+use stream_readers::reader::StreamReader;
 use version_history::published::{Naming, Published};
 
 /// The hub as a session uses it.
@@ -21,35 +20,33 @@ pub struct SessionHub<'s, 'p, N: Naming + HistoryNaming + Ledger, R: Wait + Copy
     pub published: &'s Published<'p, N>,
     pub workers: usize,
     pub options: SessionOptions,
-    /// Whether a pull computed a batch since others were last helped.
-    pub owes_help: Cell<bool>,
     ghost range: { (1 ≤ workers) × (workers ≤ 16) },
 }
 
-/// A subscriber that the session made and hasn't closed, and the session's end of its queue.
+/// A subscriber that the session made and hasn't closed, and how far its program's stream was read.
 #[derive(Drop)]
-pub struct Held<N: Naming, R: Wait + Copy> {
+pub struct Held<N: Naming> {
     pub id: usize,
-    pub items: Subscription<N, R>,
+    pub reader: StreamReader<N>,
 }
 
-impl<N: Naming, R: Wait + Copy> Model for Held<N, R> {
+impl<N: Naming> Model for Held<N> {
     ghost use Rattle.session_subscribers.specs.Holding.{Held as HeldValue};
 
     ghost Value = { HeldValue };
 
-    ghost view = { λ h. record { id = h.id; items = h.items } };
+    ghost view = { λ h. record { id = h.id; reader = h.reader } };
 }
 
 /// Whether it has this id.
-fn has_id<N: Naming, R: Wait + Copy>(one: &Held<N, R>, id: usize) -> bool
+fn has_id<N: Naming>(one: &Held<N>, id: usize) -> bool
     ensures { result ≡ (one.now.id == id) }
 {
     one.id == id
 }
 
 /// The index of the subscriber of an id among these.
-pub fn index_of<N: Naming, R: Wait + Copy>(held: &[Held<N, R>], id: usize) -> Option<usize>
+pub fn index_of<N: Naming>(held: &[Held<N>], id: usize) -> Option<usize>
     ensures { result ≡ index_in held.now id }
 {
     held.iter().position(|one| has_id(one, id))

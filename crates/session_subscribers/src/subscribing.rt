@@ -1,12 +1,14 @@
-ghost use Rattle.std.specs.Prelude.{◌≡◌, ℕ, true, List, Option, Some, [], Ok, IfOk, IfErr, OnOk};
+ghost use Rattle.std.specs.Prelude.{◌≡◌, ℕ, List, Option, None, [], Ok, IfOk, IfErr, MatchResult};
 ghost use Rattle.change_ops.specs.declared.size.Size.{Size as TheSize};
 ghost use Rattle.bpf_words.specs.Words.{IsProgram, program_of};
 ghost use Rattle.filters.specs.Accepted.{IsAccepted};
 ghost use Rattle.filters.specs.declared.rules.RuleSet.{RuleSet as TheRules};
 ghost use Rattle.hub_core.specs.declared.run.Reply.TheVariants as told;
+ghost use Rattle.core_history.specs.declared.entry.Call.TheVariants as call;
 ghost use Rattle.core_history.specs.Hubs.{Seen};
-ghost use Rattle.ingest_workers.specs.Calls.{Makes, IsCall, subscribing};
-ghost use Rattle.session_subscribers.specs.Holding.{AreSafe, IsNotSubscribed, Adds, Closes};
+ghost use Rattle.subscriber_queues.specs.Queue.{IsCapacity};
+ghost use Rattle.ingest_workers.specs.Calls.{Makes, IsCall};
+ghost use Rattle.session_subscribers.specs.Holding.{AreSafe, IsFirst, IsNotSubscribed, Adds, Closes};
 
 use crate::session_hub::{Held, SessionHub, index_of};
 use bpf_words::words::Words;
@@ -19,37 +21,35 @@ use hub_core::error::SubscribeError;
 use hub_requests::limits::SessionLimits;
 use refusals::reason::Reason;
 use session_lines::reply::Reply;
-use std::alloc::Global;
+use std::alloc::{AllocError, Global};
 use std::sync::Wait;
 use std::sync::ledger::Ledger;
-use subscriber_queues::ends::{QueueError, QueueSink, Subscription, queue_for};
+use stream_readers::reader::StreamReader;
+use subscriber_queues::ends::{CAPACITY_LIMIT, QueueSink, queue};
 use version_history::published::{Naming, ProgramToken};
 
-/// The two ends of a queue, with the promise of this program's stream.
-fn ends<N: Naming, R: Wait + Copy>(
+/// The hub's end of a queue. A session reads the versions itself, so nothing is ever sent to it.
+fn unused_sink<N: Naming, R: Wait + Copy>(
     rt: R,
     alloc: Global,
-    capacity: usize,
-    program: &Filter,
-    first: Option<u64>,
-) -> Result<(QueueSink<N, R>, Subscription<N, R>), Reason>
-    ensures sink { IfOk result (λ q. (q.0.sent ≡ []) × (q.0.capacity ≡ capacity)
-        × (q.0.promise ≡ Some (record { size = N.size; program = program.now; first = first }))
-        × (q.0.sends ≡ true)) }
-    ensures end { IfOk result (λ q. q.1
-        ≡ record {
-          line = q.0.line;
-          promise = Some (record { size = N.size; program = program.now; first = first });
-          taken = [];
-          shown = [];
-        }) }
-    ensures err { IfErr result (λ why. (v : Seen) (w : Seen) (rules : TheRules) (bytes : List ℕ) (from : Option ℕ)
-        → AreSafe rules bytes → Makes N.size v [] w → IsNotSubscribed N.size v w rules capacity bytes from why) }
+) -> Result<QueueSink<N, R>, AllocError>
+    ensures { IfOk result (λ sink. (sink.sent ≡ []) × (sink.promise ≡ None)) }
 {
-    match queue_for(rt, alloc, capacity, program, first) {
-        Ok(ends) => Ok(ends),
-        Err(QueueError::BadCapacity) => Err(Reason::BadCapacity),
-        Err(QueueError::OutOfMemory) => Err(Reason::OutOfMemory),
+    match queue(rt, alloc, 1) {
+        Ok((sink, _)) => Ok(sink),
+        Err(_) => Err(AllocError),
+    }
+}
+
+/// Refuses what is no capacity.
+fn check_capacity(capacity: usize) -> Result<(), Reason>
+    ensures { MatchResult result (λ _. IsCapacity capacity)
+        (λ why. (why ≡ Reason.BadCapacity) × ¬ IsCapacity capacity) }
+{
+    if (1..=CAPACITY_LIMIT).contains(&capacity) {
+        Ok(())
+    } else {
+        Err(Reason::BadCapacity)
     }
 }
 
@@ -82,62 +82,48 @@ impl<N: Naming + HistoryNaming + Ledger, R: Wait + Copy> SessionHub<'_, '_, N, R
         }
     }
 
-    /// Refuses what the hub would refuse whatever the program is.
-    fn check(&self, share: &mut Share<N>, first: Option<u64>) -> Result<(), Reason>
-        ensures ok { OnOk result (Makes N.size share.old [] share.new) }
+    /// The first version of a subscriber: the one that is named, or the latest. What the hub would refuse whatever the
+    /// program is, is refused.
+    fn first_version(&self, share: &mut Share<N>, named: Option<u64>) -> Result<u64, Reason>
+        ensures ok { IfOk result (λ first. IsFirst N.size share.old share.new named first
+            × Makes N.size share.old [] share.new) }
         ensures err { IfErr result (λ why. (rules : TheRules) (capacity : ℕ) (bytes : List ℕ)
             → AreSafe rules bytes
-            → IsNotSubscribed N.size share.old share.new rules capacity bytes first why) }
+            → IsNotSubscribed N.size share.old share.new rules capacity bytes named why) }
     {
         if self.hub.is_full(&self.rt, share) {
             return Err(Reason::SubscribersFull);
         }
-        let Some(number) = first else {
-            return Ok(());
+        let Some(number) = named else {
+            return Ok(self.hub.latest(&self.rt, share));
         };
         if self.hub.lacks_version(&self.rt, share, number) {
             return Err(Reason::NoVersion);
         }
-        Ok(())
-    }
-
-    /// Subscribes at the hub, from the version that is named or the latest one on.
-    fn subscribed(
-        &self,
-        share: &mut Share<N>,
-        token: ProgramToken<N>,
-        sink: QueueSink<N, R>,
-        first: Option<u64>,
-    ) -> Result<usize, SubscribeError>
-        requires none { sink.sent ≡ [] }
-        requires promise { sink.promise ≡ Some (record { size = N.size; program = token.value; first = first }) }
-        ensures { IsCall N.size share.old (subscribing first token sink) (told.Subscribed result) share.new }
-    {
-        match first {
-            None => self.hub.subscribe(&self.rt, share, token, sink),
-            Some(number) => self
-                .hub
-                .subscribe_from(&self.rt, share, token, sink, number),
-        }
+        Ok(number)
     }
 
     /// The id under which the hub has the subscriber, or why it has none.
     fn id_at_hub(
         &self,
         share: &mut Share<N>,
-        token: ProgramToken<N>,
+        program: ProgramToken<N>,
         sink: QueueSink<N, R>,
-        first: Option<u64>,
+        first: u64,
     ) -> Result<usize, Reason>
         requires none { sink.sent ≡ [] }
-        requires promise { sink.promise ≡ Some (record { size = N.size; program = token.value; first = first }) }
-        ensures ok { IfOk result (λ id. IsCall N.size share.old (subscribing first token sink) (told.Subscribed (Ok id))
-            share.new) }
+        requires promise { sink.promise ≡ None }
+        ensures ok { IfOk result (λ id. IsCall N.size share.old (call.SubscribeFrom program sink first)
+            (told.Subscribed (Ok id)) share.new) }
         ensures err { IfErr result (λ why. (v : Seen) (rules : TheRules) (capacity : ℕ) (bytes : List ℕ)
-            → Makes N.size v [] share.old → AreSafe rules bytes → token.value ≡ program_of bytes
-            → IsNotSubscribed N.size v share.new rules capacity bytes first why) }
+            (named : Option ℕ) → IsFirst N.size v share.old named first → Makes N.size v [] share.old
+            → AreSafe rules bytes → program.value ≡ program_of bytes
+            → IsNotSubscribed N.size v share.new rules capacity bytes named why) }
     {
-        match self.subscribed(share, token, sink, first) {
+        match self
+            .hub
+            .subscribe_from(&self.rt, share, program, sink, first)
+        {
             Ok(id) => Ok(id),
             Err(SubscribeError::SubscribersFull) => Err(Reason::SubscribersFull),
             Err(SubscribeError::NoVersion) => Err(Reason::NoVersion),
@@ -153,57 +139,64 @@ impl<N: Naming + HistoryNaming + Ledger, R: Wait + Copy> SessionHub<'_, '_, N, R
     fn add(
         &self,
         share: &mut Share<N>,
-        held: &mut Vec<Held<N, R>>,
+        held: &mut Vec<Held<N>>,
         left: &mut SessionLimits,
         rules: RuleSet,
         capacity: usize,
         bytes: &[u8],
-        first: Option<u64>,
+        named: Option<u64>,
     ) -> Result<usize, Reason>
-        ensures ok { IfOk result (λ id. Adds N.size share.old share.new rules capacity bytes.now first left.old
+        ensures ok { IfOk result (λ id. Adds N.size share.old share.new rules capacity bytes.now named left.old
             held.old.items (Reply.Subscribed id) left.new held.new.items) }
-        ensures err { IfErr result (λ why. Adds N.size share.old share.new rules capacity bytes.now first left.old
+        ensures err { IfErr result (λ why. Adds N.size share.old share.new rules capacity bytes.now named left.old
             held.old.items (Reply.Refused why) left.new held.new.items) }
     {
         let program = accepted(self.alloc, rules, bytes)?;
         if !left.takes_subscriber() {
             return Err(Reason::SubscribersFull);
         }
-        self.check(share, first)?;
+        let first = self.first_version(share, named)?;
         if held.reserve(1).is_err() {
             return Err(Reason::OutOfMemory);
         }
-        let (sink, items) = ends(self.rt, self.alloc, capacity, &program, first)?;
+        check_capacity(capacity)?;
+        let Ok(sink) = unused_sink(self.rt, self.alloc) else {
+            return Err(Reason::OutOfMemory);
+        };
         let token = self.publish(program)?;
-        let id = self.id_at_hub(share, token, sink, first)?;
-        held.push_reserved(Held { id, items });
+        let id = self.id_at_hub(share, token.again(), sink, first)?;
+        self.hub.note_progress(id, first);
+        held.push_reserved(Held {
+            id,
+            reader: StreamReader::new(token, first),
+        });
         left.spend_subscriber();
         Ok(id)
     }
 
-    /// Adds a subscriber, unless the session has none left: its program and the rules that accept it, how many items
-    /// may wait for it, and its first version, the latest where none is named.
+    /// Adds a subscriber, unless the session has none left: its program and the rules that accept it, a capacity, of
+    /// which it is only looked whether it is one, and its first version, the latest where none is named.
     pub fn subscribe(
         &self,
         share: &mut Share<N>,
-        held: &mut Vec<Held<N, R>>,
+        held: &mut Vec<Held<N>>,
         left: &mut SessionLimits,
         rules: RuleSet,
         capacity: usize,
         bytes: &[u8],
-        first: Option<u64>,
+        named: Option<u64>,
     ) -> Reply
-        ensures { Adds N.size share.old share.new rules capacity bytes.now first left.old held.old.items result
+        ensures { Adds N.size share.old share.new rules capacity bytes.now named left.old held.old.items result
             left.new held.new.items }
     {
-        match self.add(share, held, left, rules, capacity, bytes, first) {
+        match self.add(share, held, left, rules, capacity, bytes, named) {
             Ok(id) => Reply::Subscribed(id),
             Err(reason) => Reply::Refused(reason),
         }
     }
 
     /// Closes a subscriber of the session.
-    pub fn close(&self, share: &mut Share<N>, held: &mut Vec<Held<N, R>>, id: usize) -> Reply
+    pub fn close(&self, share: &mut Share<N>, held: &mut Vec<Held<N>>, id: usize) -> Reply
         ensures { Closes N.size share.old share.new held.old.items id result held.new.items }
     {
         let Some(index) = index_of(held.as_slice(), id) else {

@@ -1,4 +1,4 @@
-use Rattle.std.proofs.Common.{◌≡◌, ◌∙◌, List, ℕ, ◌++◌, ap, string_bytes}
+use Rattle.std.proofs.Common.{◌∙◌, List, ℕ, ◌++◌, ap, string_bytes}
 use Rattle.bpf_words.specs.Words.{program_of}
 use Rattle.need_trails.specs.Trail.{trail_text}
 use Rattle.program_listing.specs.Listing.{slot_text}

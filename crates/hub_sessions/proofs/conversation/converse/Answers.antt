@@ -2,7 +2,6 @@ use Rattle.std.proofs.Common.{rules, ◌∙◌, ◌++◌, inl, subst, string_byt
 use Rattle.std.specs.Io.KnownBytes.{Appends}
 use Rattle.hub_sessions.specs.Sessions.{SessionState, session_state, read_in}
 use Rattle.hub_sessions.proofs.Conversing.{turned, ended, unread, broke, unfinished, write_failed, read_failed}
-use Rattle.hub_sessions.proofs.Owning.{turned_own}
 use Rattle.hub_sessions.proofs.conversation.converse.Goals as goal
 
 pub returns-in_err-write_reply-clause-ends : goal.returns-in_err-write_reply-clause-ends
@@ -20,8 +19,7 @@ loop-preserved-in-Ok-More g c =
       tt,
       tt,
       c.take_turn-turn.ensures.same ∙ c.loop.invariant.2,
-      turned _ _ _ before _ _ c.take_turn-turn.result c.in-Ok-More.field-0-0 (string_bytes c.take_turn-turn.new.out) after _ _ c.help_others.new.share c.loop.invariant.3 (search rules) c.take_turn-turn.ensures.ok wrote c.help_others.ensures,
-      turned_own c.take_turn-turn.result c.in-Ok-More.field-0-0 before c.loop.lines.left (string_bytes c.take_turn-turn.new.out) after c.take_turn-turn.new.lines.left c.help_others.new.share (search rules) c.take_turn-turn.ensures.ok c.help_others.ensures c.loop.invariant.4,
+      turned _ _ _ before _ _ c.take_turn-turn.result c.in-Ok-More.field-0-0 (string_bytes c.take_turn-turn.new.out) after _ _ c.loop.invariant.3 (search rules) c.take_turn-turn.ensures.ok wrote,
     )
 
 pub loop-preserved-in-Ok-More-2 : goal.loop-preserved-in-Ok-More-2
@@ -32,8 +30,7 @@ loop-preserved-in-Ok-More-2 g c =
       tt,
       tt,
       c.take_turn-turn.ensures.same ∙ c.loop.invariant.2,
-      turned _ _ _ before _ _ c.take_turn-turn.result c.in-Ok-More.field-0-0 (string_bytes c.take_turn-turn.new.out) after _ _ c.help_others.new.share c.loop.invariant.3 (search rules) c.take_turn-turn.ensures.ok wrote c.help_others.ensures,
-      turned_own c.take_turn-turn.result c.in-Ok-More.field-0-0 before c.loop.lines.left (string_bytes c.take_turn-turn.new.out) after c.take_turn-turn.new.lines.left c.help_others.new.share (search rules) c.take_turn-turn.ensures.ok c.help_others.ensures c.loop.invariant.4,
+      turned _ _ _ before _ _ c.take_turn-turn.result c.in-Ok-More.field-0-0 (string_bytes c.take_turn-turn.new.out) after _ _ c.loop.invariant.3 (search rules) c.take_turn-turn.ensures.ok wrote,
     )
 
 pub returns-in-Ok-Last-clause-ends : goal.returns-in-Ok-Last-clause-ends

@@ -1,4 +1,4 @@
-use Rattle.session_subscribers.proofs.Holdings.{passed_on}
+use Rattle.session_subscribers.proofs.Refusals.{passed_on}
 use Rattle.hub_sessions.proofs.submitting.admit.Goals as goal
 
 pub returns-in_err-check_counters-clause-err : goal.returns-in_err-check_counters-clause-err

@@ -1,5 +1,4 @@
 use Rattle.std.proofs.Common.{refl, ap, sym, ◌∙◌, subst}
-use Rattle.hub_core.specs.Machine.{Core}
 use Rattle.hub_core.specs.declared.run.Reply.TheVariants as reply
 use Rattle.subscriber_queues.specs.Queue.{QueueSink, was_sent, IsFull, closed_end, unsent}
 use Rattle.core_history.specs.declared.entry.Call.TheVariants as call

@@ -1,23 +1,7 @@
 use Rattle.std.proofs.Common.{◌≡◌, get_or, sym, ap, subst, ◌∙◌}
 use Rattle.session_subscribers.specs.Holding.{Held, index_in}
-use Rattle.session_subscribers.proofs.Holdings.{none_pulled, own_pulled, pulled_ok, pulled_err}
-use Rattle.session_subscribers.proofs.Meetings.{own_at}
+use Rattle.session_subscribers.proofs.Pulls.{none_pulled, pulled_ok, pulled_err}
 use Rattle.session_subscribers.proofs.session_hub.SessionHub.pull.Goals as goal
-
-pub pull_from-reply-requires-after_bounds : goal.pull_from-reply-requires-after_bounds
-pull_from-reply-requires-after_bounds g c κs within =
-    let held = c.args.held.now.items in
-    let there = sym (c.in-Some.ensures ∙ ap (λ l. index_in l c.args.id) c.as_slice.ensures.value) in
-    own_at c.args.share.now held c.args.id c.in-Some.index (record { id = c.one.inside.id; items = c.one.inside.items }) c.requires.own there
-    (subst (λ (z : Held). z ≡ get_or held c.in-Some.index z) (sym c.one.view_is) c.index_mut-one.ensures.value)
-
-pub send-requires : goal.send-requires
-send-requires g c =
-    let held = c.args.held.now.items in
-    let there = sym (c.in-Some.ensures ∙ ap (λ l. index_in l c.args.id) c.as_slice.ensures.value) in
-    let read = subst (λ (z : Held). z ≡ get_or held c.in-Some.index z) (sym c.one.view_is) c.index_mut-one.ensures.value in
-    own_pulled c.pull_from-reply.result g.N.Naming.size _ _ c.args.id _ _ c.args.count _ _ _ c.pull_from-reply.ensures.calls c.pull_from-reply.ensures.ok c.pull_from-reply.ensures.err
-    (own_at c.args.share.now held c.args.id c.in-Some.index (record { id = c.one.inside.id; items = c.one.inside.items }) c.requires.own there read)
 
 pub returns-in_default-clause-ok : goal.returns-in_default-clause-ok
 returns-in_default-clause-ok g c = none_pulled _ _ _ _ _ _ _ (sym (c.in_default.ensures ∙ ap (λ l. index_in l c.args.id) c.as_slice.ensures.value))
@@ -27,15 +11,13 @@ returns-clause-ok g c =
     let held = c.args.held.now.items in
     let there = sym (c.in-Some.ensures ∙ ap (λ l. index_in l c.args.id) c.as_slice.ensures.value) in
     let read = subst (λ (z : Held). z ≡ get_or held c.in-Some.index z) (sym c.one.view_is) c.index_mut-one.ensures.value in
-    pulled_ok c.pull_from-reply.result g.N.Naming.size _ _ _ _ c.args.id c.args.count c.in-Some.index held (record { id = c.one.inside.id; items = c.one.inside.items }) c.pull_from-reply.new.items c.send.new.end c.send.result _ _
-    there read c.stays_orderly.ensures.orderly c.stays_orderly.ensures.promised c.pull_from-reply.ensures.calls
-    (own_at c.args.share.now held c.args.id c.in-Some.index (record { id = c.one.inside.id; items = c.one.inside.items }) c.requires.own there read) c.send.ensures c.pull_from-reply.ensures.ok
+    pulled_ok c.pull_from-reply.result g.N.Naming.size _ _ _ c.args.id c.args.count c.in-Some.index held (record { id = c.one.inside.id; reader = c.one.inside.reader }) c.pull_from-reply.new.reader _ _
+    there read c.pull_from-reply.ensures.ok
 
 pub returns-clause-err : goal.returns-clause-err
 returns-clause-err g c =
     let held = c.args.held.now.items in
     let there = sym (c.in-Some.ensures ∙ ap (λ l. index_in l c.args.id) c.as_slice.ensures.value) in
     let read = subst (λ (z : Held). z ≡ get_or held c.in-Some.index z) (sym c.one.view_is) c.index_mut-one.ensures.value in
-    pulled_err c.pull_from-reply.result g.N.Naming.size _ _ _ c.args.id c.args.count c.in-Some.index held (record { id = c.one.inside.id; items = c.one.inside.items }) c.pull_from-reply.new.items c.send.new.end c.send.result _ _
-    there read c.stays_orderly.ensures.orderly c.stays_orderly.ensures.promised c.pull_from-reply.ensures.calls
-    (own_at c.args.share.now held c.args.id c.in-Some.index (record { id = c.one.inside.id; items = c.one.inside.items }) c.requires.own there read) c.send.ensures c.pull_from-reply.ensures.err
+    pulled_err c.pull_from-reply.result g.N.Naming.size _ _ c.args.id c.args.count c.in-Some.index held (record { id = c.one.inside.id; reader = c.one.inside.reader }) c.pull_from-reply.new.reader _ _
+    there read c.pull_from-reply.ensures.err

@@ -1,7 +1,14 @@
-use Rattle.std.proofs.Common.{◌≤◌, string_bytes}
-use Rattle.session_subscribers.specs.Holding.{MakesPullCalls}
-use Rattle.session_subscribers.specs.Items.{Takes}
+use Rattle.std.proofs.Common.{◌≡◌, ◌+◌, ◌<◌, ◌≤◌, [], List, take, drop, string_bytes}
+use Rattle.span_flatten.specs.Version.{Version}
+use Rattle.version_history.specs.Tokens.{Token}
+use Rattle.session_subscribers.specs.Items.{Gives}
 use Rattle.session_subscribers.proofs.session_hub.SessionHub.pull_from.Given as goal
 
-abbrev pub invariant-loop-round : goal.invariant-loop-round
-invariant-loop-round g l = Takes l.taken l.initial.items l.items (string_bytes l.initial.out) (string_bytes l.out) × (l.taken ≤ l.count) × MakesPullCalls g.N.Naming.size l.initial.share l.share l.id
+abbrev pub invariant-loop-version : goal.invariant-loop-version
+invariant-loop-version g l = record {
+  next : l.reader.next ≡ l.from + l.version-index;
+  each : l.version-index ≤ l.given;
+  most : l.given ≤ l.count;
+  none : l.given < l.count → l.reader.pending ≡ [];
+  gives : (all : List (Token Version)) → l.version-items ≡ take l.count (drop l.from all) → Gives all l.given l.fn.reader l.reader (string_bytes l.fn.out) (string_bytes l.out);
+}

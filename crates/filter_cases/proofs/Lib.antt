@@ -1,0 +1,6 @@
+mod CaseForms
+mod LineByLine
+mod Links
+mod Quotes
+mod Saying
+mod Splits

@@ -1,0 +1,9 @@
+pub mod Wanted
+pub mod Marks
+pub mod Escapes
+pub mod Seen
+pub mod Said
+pub mod Cases
+pub mod Xml
+pub mod Refusal
+pub mod Report
