@@ -14,6 +14,9 @@ from editors import ROOT, place
 from limits import (BACK, DELETE, SIZES, VISIBLE_BYTES, add_text, chord, compare, in_lines, is_asked, is_sent, press, quiet, remove_text,
                     replace_all, room, select_all, version, waste)
 
+# Milliseconds after which a removal is a step of its own, as in examples/js/replica.js.
+JOINED = 500
+
 # What two do to one character, offline but for `sync`, and what all show at last: a removal of what is removed does nothing.
 CASES = [
     ("one removes and undoes", "1d 1u", True),
@@ -269,6 +272,8 @@ def try_day(hub, editors, rng, size, hours, keys):
                 assert not errors, errors
             here.compare()
             lines, used, begun = editor.lines(), characters(here), version(here)
+            # Else it may be one step with a removal just before it.
+            editor.do("await pause(arguments[0])", 2 * JOINED)
             replace_all(editor, DELETE)
             compare(here, "")
             undo(editor)
